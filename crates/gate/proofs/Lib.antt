@@ -1,0 +1,4 @@
+pub mod Cases
+pub mod Widen
+pub mod Undo
+pub mod Slices

@@ -1,0 +1,102 @@
+-- Columns and values tell the same: bit x of column w after a step is bit w of row x's value after it.
+use mathlib.Core.Path.{_≡_, refl, sym, ap, ap₂, _∙_}
+use mathlib.Core.Bool.{Bool, true}
+use mathlib.Core.List.{List}
+use Prim.Native.Nat.{ℕ, _<_}
+use native.Mathlib.Decide.{ℕ-discrete}
+use native.Mathlib.Omega.{arith}
+use borrow.Author.Tests.{eqb-true, ltb-true, eq-eqb, ne-eqb}
+use lib.Dec.{eqb, ltb}
+use lib.Bits.{bitAnd, bitXor}
+use lib.Count.{ones, onesIn, trailingZeros, leadingZeros}
+use lib.ListN.{length, getD}
+use lib.Seq.{getD-set-same, getD-set-other}
+use Rattle.logic.specs.Rules.{both, implies, allBelow, pick}
+use Rattle.logic.specs.Bit.{bitOf}
+use Rattle.logic.proofs.Chain.{both-left, both-right, implied}
+use Rattle.logic.proofs.Below.{below}
+use Rattle.logic.proofs.Bits.{bit-xor, bit-and}
+use Rattle.gate.specs.declared.Kind.{Kind}
+use Rattle.gate.specs.declared.Kind.the-variants.{Not, Cnot, Toffoli}
+use Rattle.gate.specs.Gates.{targetOf, lawful, step, gateOf}
+use Rattle.gate.specs.Inner.{firing, columnStep}
+use Rattle.gate.proofs.Widen.{parts, lawful-lt}
+
+-- row x of the columns is the value v
+abbrev pub Row : List ℕ → ℕ → ℕ → Type 0
+Row cs x v = (w : ℕ) → w < 5 → bitOf x (getD cs w 0) ≡ bitOf w v
+
+-- what the controls say of one value
+abbrev controls : Kind → ℕ → ℕ
+controls Not v = 1
+controls (Cnot a) v = bitOf a v
+controls (Toffoli a b) v = bitAnd (bitOf a v) (bitOf b v)
+
+abbrev inside : Kind → Bool
+inside Not = true
+inside (Cnot a) = ltb a 5
+inside (Toffoli a b) = both (ltb a 5) (ltb b 5)
+
+abbrev after : ℕ → ℕ → ℕ → ℕ
+after b v w = pick (eqb w (targetOf b)) (bitXor (bitOf w v) (controls (gateOf b .kind) v)) (bitOf w v)
+
+abbrev rightBit : ℕ → ℕ → ℕ → Bool
+rightBit b v w = eqb (bitOf w (step b v)) (after b v w)
+
+abbrev rightBits : ℕ → ℕ → Bool
+rightBits b v = allBelow 5 (rightBit b v)
+
+abbrev rightGate : ℕ → Bool
+rightGate b = implies (lawful 2 5 b) (both (inside (gateOf b .kind)) (allBelow 32 (rightBits b)))
+
+right-all : allBelow 160 rightGate ≡ true
+unfolding lawful step gateOf ones onesIn trailingZeros leadingZeros
+right-all = refl
+
+module _ (b : ℕ) (h : lawful 2 5 b ≡ true) where
+  right : both (inside (gateOf b .kind)) (allBelow 32 (rightBits b)) ≡ true
+  right = implied (lawful 2 5 b) (both (inside (gateOf b .kind)) (allBelow 32 (rightBits b))) (below 160 rightGate right-all b (lawful-lt 2 5 b (omega arith) h)) h
+
+  -- the control wires of a lawful gate are below 5
+  pub wires-inside : inside (gateOf b .kind) ≡ true
+  wires-inside = both-left (inside (gateOf b .kind)) (allBelow 32 (rightBits b)) right
+
+  pub bit-after : (v w : ℕ) → v < 32 → w < 5 → bitOf w (step b v) ≡ after b v w
+  bit-after v w hv hw =
+      eqb-true (bitOf w (step b v)) (after b v w)
+      (below 5 (rightBit b v) (below 32 (rightBits b) (both-right (inside (gateOf b .kind)) (allBelow 32 (rightBits b)) right) v hv) w hw)
+
+abbrev setBit : ℕ → Bool
+setBit x = eqb (bitOf x 65535) 1
+
+module _ (cs : List ℕ) (x v : ℕ) (hx : x < 16) (row : Row cs x v) where
+  firing-bit : (k : Kind) → inside k ≡ true → bitOf x (firing k cs) ≡ controls k v
+  firing-bit Not i = eqb-true (bitOf x 65535) 1 (below 16 setBit refl x hx)
+  firing-bit (Cnot a) i = row a (ltb-true a 5 i)
+  firing-bit (Toffoli a b) i =
+      bit-and x (getD cs a 0) (getD cs b 0)
+      ∙ ap₂ bitAnd (row a (ltb-true a 5 (both-left (ltb a 5) (ltb b 5) i))) (row b (ltb-true b 5 (both-right (ltb a 5) (ltb b 5) i)))
+
+  module _ (b : ℕ) (h : lawful 2 5 b ≡ true) (hl : length cs ≡ 5) (hv : v < 32) where
+    at-target : bitOf x (getD (columnStep (gateOf b) cs) (targetOf b) 0) ≡ bitOf (targetOf b) (step b v)
+    unfolding columnStep gateOf
+    at-target =
+        let ht : targetOf b < 5 = parts 2 5 b h .target in
+        ap (bitOf x) (getD-set-same cs (targetOf b) (bitXor (getD cs (targetOf b) 0) (firing (gateOf b .kind) cs)) 0 (omega arith))
+        ∙ bit-xor x (getD cs (targetOf b) 0) (firing (gateOf b .kind) cs)
+        ∙ ap₂ bitXor (row (targetOf b) ht) (firing-bit (gateOf b .kind) (wires-inside b h))
+        ∙ sym (bit-after b h v (targetOf b) hv ht ∙ rw (eq-eqb (targetOf b) (targetOf b) refl))
+
+    elsewhere : (w : ℕ) → w < 5 → (w ≡ targetOf b → ⊥) → bitOf x (getD (columnStep (gateOf b) cs) w 0) ≡ bitOf w (step b v)
+    unfolding columnStep gateOf
+    elsewhere w hw n =
+        ap (bitOf x) (getD-set-other cs (targetOf b) w (bitXor (getD cs (targetOf b) 0) (firing (gateOf b .kind) cs)) 0 n)
+        ∙ row w hw
+        ∙ sym (bit-after b h v w hv hw ∙ rw (ne-eqb w (targetOf b) n))
+
+    pub row-step : Row (columnStep (gateOf b) cs) x (step b v)
+    row-step w hw = by-wire (ℕ-discrete w (targetOf b))
+      where
+        by-wire : Dec (w ≡ targetOf b) → bitOf x (getD (columnStep (gateOf b) cs) w 0) ≡ bitOf w (step b v)
+        by-wire (yes e) = rw e at-target
+        by-wire (no n) = elsewhere w hw n

@@ -1,0 +1,23 @@
+use borrow.Author.Needs.{needs}
+use Rattle.gate.proofs.firing.Statement.{statement}
+use Rattle.gate.proofs.firing.Tie as tie
+
+returns-2 : tie.Need-returns-2
+returns-2 c = cc
+
+returns-3 : tie.Need-returns-3
+returns-3 c = cc
+
+pub firing-spec : {M : Type 1} → statement M
+firing-spec =
+    tie.close
+    (tie.spec
+    (λ c. search needs)
+    (λ c. search needs)
+    (λ c κs. search needs)
+    (λ c. search needs)
+    (λ c κs. search needs)
+    (λ c κs. search needs)
+    (λ c. search needs)
+    returns-2
+    returns-3)

@@ -1,0 +1,55 @@
+-- Gates, as document 01 has them under 'Wires and gates'.
+use mathlib.Core.Bool.{Bool}
+use mathlib.Core.List.{List}
+use Prim.Native.Nat.{ℕ, zero, suc, _-_, _/_, _%_, _^_}
+use lib.Dec.{ltb, leb, eqb}
+use lib.Bits.{bitAnd, bitXor}
+use lib.Count.{ones, trailingZeros, leadingZeros}
+use Rattle.logic.specs.Rules.{both, pick}
+use Rattle.logic.specs.Lists.{filter, count}
+use Rattle.logic.specs.Bit.{bitOf}
+use Rattle.gate.specs.declared.Gate.{Gate}
+use Rattle.gate.specs.declared.Kind.{Kind}
+use Rattle.gate.specs.declared.Kind.the-variants.{Not, Cnot, Toffoli}
+
+-- "target wire in 3 bits, then a 5-bit control mask in which bit i means wire i"
+abbrev pub targetOf : ℕ → ℕ
+targetOf b = b / 32
+
+abbrev pub maskOf : ℕ → ℕ
+maskOf b = b % 32
+
+-- "the target is below W, each control is below W, the target is no control, and the mask has at most two ones": here at most k
+unfoldable pub lawful : ℕ → ℕ → ℕ → Bool
+lawful k w b =
+    both (ltb (targetOf b) w)
+    (both (ltb (maskOf b) (2 ^ w))
+    (both (eqb (bitOf (targetOf b) (maskOf b)) 0)
+    (leb (ones (maskOf b)) k)))
+
+-- all controls of the mask are 1 in v
+abbrev pub fires : ℕ → ℕ → Bool
+fires m v = eqb (bitAnd m v) m
+
+-- "The target bit flips exactly when all controls are 1."
+unfoldable pub step : ℕ → ℕ → ℕ
+step b v = pick (fires (maskOf b) v) (bitXor v (2 ^ targetOf b)) v
+
+-- "No control is a NOT, one a CNOT, two a Toffoli": by the number of controls; the cases carry the lowest and the highest control
+abbrev pub lowest : ℕ → ℕ
+lowest m = trailingZeros 8 m
+
+abbrev pub highest : ℕ → ℕ
+highest m = 7 - leadingZeros 8 m
+
+abbrev pub kindFor : ℕ → ℕ → Kind
+kindFor zero m = Not
+kindFor (suc zero) m = Cnot (lowest m)
+kindFor (suc (suc n)) m = Toffoli (lowest m) (highest m)
+
+unfoldable pub gateOf : ℕ → Gate
+gateOf b = record { target = targetOf b; kind = kindFor (ones (maskOf b)) (maskOf b) }
+
+-- "they stand in rising byte order": the lawful bytes of 0 to 255
+unfoldable pub gatesFor : ℕ → ℕ → List ℕ
+gatesFor k w = filter (lawful k w) (count 0 256)

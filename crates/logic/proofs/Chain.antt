@@ -1,0 +1,28 @@
+-- What a joined test says of its parts, and what a list of rules that gives 0 says of each rule.
+use mathlib.Core.Path.{_≡_, refl}
+use mathlib.Core.Bool.{Bool, true, false, false≢true}
+use Prim.Native.Nat.{ℕ, _<_}
+use native.Mathlib.Omega.{arith}
+use Rattle.logic.specs.Rules.{both, implies, rule}
+
+pub both-left : (a b : Bool) → both a b ≡ true → a ≡ true
+both-left true b h = refl
+both-left false b h = h
+
+pub both-right : (a b : Bool) → both a b ≡ true → b ≡ true
+both-right true b h = h
+both-right false b h = absurd (false≢true h)
+
+pub both-true : {a b : Bool} → a ≡ true → b ≡ true → both a b ≡ true
+both-true ha hb = rw (ha, hb)
+
+pub both-parts : (a b : Bool) → both a b ≡ true → (a ≡ true) × (b ≡ true)
+both-parts a b h = (both-left a b h, both-right a b h)
+
+pub implied : (a b : Bool) → implies a b ≡ true → a ≡ true → b ≡ true
+implied true b h e = h
+implied false b h e = absurd (false≢true e)
+
+pub rule-kept : (kept : Bool) (code rest : ℕ) → 0 < code → rule kept code rest ≡ 0 → (kept ≡ true) × (rest ≡ 0)
+rule-kept true code rest p h = (refl, h)
+rule-kept false code rest p h = absurd (omega arith)

@@ -1,0 +1,73 @@
+-- Folds of a list by what is left of it: what a loop that has passed i elements still owes, and what it owes at the end.
+use mathlib.Core.Path.{_≡_, refl}
+use mathlib.Core.Bool.{Bool, true, false}
+use mathlib.Core.List.{List, [], _∷_, _++_}
+use Prim.Native.Nat.{ℕ, zero, suc, _+_, _<_, _≤_}
+use native.Mathlib.Numerals.{add-one}
+use native.Mathlib.Nat.{not-suc-le-zero, le-of-suc-le-suc}
+use native.Mathlib.Omega.{arith}
+use lib.ListN.{length, drop, getD, drop-of-length-le}
+use lib.Seq.{drop-cons}
+use Rattle.logic.specs.Rules.{both}
+use Rattle.logic.specs.Lists.{allOf, total, along, back}
+use Rattle.logic.proofs.Chain.{both-left, both-right}
+
+module _ {A : Type 0} (f : A → Bool) where
+  pub all-more : (l : List A) (i : ℕ) (d : A) → i < length l → allOf f (drop i l) ≡ both (f (getD l i d)) (allOf f (drop (i + 1) l))
+  unfolding allOf
+  all-more l i d h = rw (add-one, drop-cons l i d h)
+
+  pub all-done : (l : List A) (i : ℕ) → length l ≤ i → allOf f (drop i l) ≡ true
+  unfolding allOf
+  all-done l i h = rw (drop-of-length-le l h)
+
+  pub all-at : (l : List A) (i : ℕ) (d : A) → allOf f l ≡ true → i < length l → f (getD l i d) ≡ true
+  unfolding allOf
+  all-at [] i d t h = absurd (not-suc-le-zero h)
+  all-at (x ∷ xs) zero d t h = both-left (f x) (allOf f xs) t
+  all-at (x ∷ xs) (suc i) d t h = all-at xs i d (both-right (f x) (allOf f xs) t) (le-of-suc-le-suc h)
+
+  pub all-append : (l m : List A) → allOf f (l ++ m) ≡ both (allOf f l) (allOf f m)
+  unfolding allOf
+  all-append [] m = refl
+  all-append (x ∷ xs) m = rw (all-append xs m) (both-assoc (f x) (allOf f xs) (allOf f m))
+    where
+      both-assoc : (a b c : Bool) → both a (both b c) ≡ both (both a b) c
+      both-assoc true b c = refl
+      both-assoc false b c = refl
+
+module _ {A : Type 0} (f : A → ℕ) where
+  pub total-more : (l : List A) (i : ℕ) (d : A) → i < length l → total f (drop i l) ≡ f (getD l i d) + total f (drop (i + 1) l)
+  unfolding total
+  total-more l i d h = rw (add-one, drop-cons l i d h)
+
+  pub total-done : (l : List A) (i : ℕ) → length l ≤ i → total f (drop i l) ≡ 0
+  unfolding total
+  total-done l i h = rw (drop-of-length-le l h)
+
+  pub total-append : (l m : List A) → total f (l ++ m) ≡ total f l + total f m
+  unfolding total
+  total-append [] m = omega arith
+  total-append (x ∷ xs) m = omega (arith, total-append xs m)
+
+module _ {A S : Type 0} (f : A → S → S) where
+  pub along-more : (l : List A) (i : ℕ) (d : A) (s : S) → i < length l → along f (drop i l) s ≡ along f (drop (i + 1) l) (f (getD l i d) s)
+  unfolding along
+  along-more l i d s h = rw (add-one, drop-cons l i d h)
+
+  pub along-done : (l : List A) (i : ℕ) (s : S) → length l ≤ i → along f (drop i l) s ≡ s
+  unfolding along
+  along-done l i s h = rw (drop-of-length-le l h)
+
+  pub along-append : (l m : List A) (s : S) → along f (l ++ m) s ≡ along f m (along f l s)
+  unfolding along
+  along-append [] m s = refl
+  along-append (x ∷ xs) m s = along-append xs m (f x s)
+
+  pub back-more : (l : List A) (i : ℕ) (d : A) (s : S) → i < length l → back f (drop i l) s ≡ f (getD l i d) (back f (drop (i + 1) l) s)
+  unfolding back
+  back-more l i d s h = rw (add-one, drop-cons l i d h)
+
+  pub back-done : (l : List A) (i : ℕ) (s : S) → length l ≤ i → back f (drop i l) s ≡ s
+  unfolding back
+  back-done l i s h = rw (drop-of-length-le l h)

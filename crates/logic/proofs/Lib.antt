@@ -1,0 +1,4 @@
+pub mod Chain
+pub mod Below
+pub mod Fold
+pub mod Bits

@@ -1,0 +1,35 @@
+-- Lists from the head: a test of every element, a sum, and a state carried along or back.
+use mathlib.Core.Bool.{Bool, true}
+use mathlib.Core.List.{List, [], _∷_}
+use Prim.Native.Nat.{ℕ, zero, suc, _+_}
+use Rattle.logic.specs.Rules.{both, pick}
+
+-- f holds at each element
+unfoldable pub allOf : {A : Type 0} → (A → Bool) → List A → Bool
+allOf f [] = true
+allOf f (x ∷ xs) = both (f x) (allOf f xs)
+
+-- the elements at which f holds, in their order
+abbrev pub filter : {A : Type 0} → (A → Bool) → List A → List A
+filter f [] = []
+filter f (x ∷ xs) = pick (f x) (x ∷ filter f xs) (filter f xs)
+
+-- the n numbers from i on, rising
+abbrev pub count : ℕ → ℕ → List ℕ
+count i zero = []
+count i (suc n) = i ∷ count (suc i) n
+
+-- the sum of f over the list
+unfoldable pub total : {A : Type 0} → (A → ℕ) → List A → ℕ
+total f [] = 0
+total f (x ∷ xs) = f x + total f xs
+
+-- the state after the steps of the first element, the second, and so on to the last
+unfoldable pub along : {A S : Type 0} → (A → S → S) → List A → S → S
+along f [] s = s
+along f (x ∷ xs) s = along f xs (f x s)
+
+-- the state after the steps of the last element, the one before it, and so on to the first
+unfoldable pub back : {A S : Type 0} → (A → S → S) → List A → S → S
+back f [] s = s
+back f (x ∷ xs) s = f x (back f xs s)

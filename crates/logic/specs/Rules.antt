@@ -1,0 +1,28 @@
+-- Rules that a computer can test: a rule is a Bool, and a list of rules gives the code of the first one broken.
+use mathlib.Core.Bool.{Bool, true, false}
+use Prim.Native.Nat.{ℕ, zero, suc}
+
+abbrev pub both : Bool → Bool → Bool
+both true b = b
+both false b = false
+
+abbrev pub either : Bool → Bool → Bool
+either true b = true
+either false b = b
+
+abbrev pub implies : Bool → Bool → Bool
+implies true b = b
+implies false b = true
+
+abbrev pub pick : {A : Type 0} → Bool → A → A → A
+pick true a b = a
+pick false a b = b
+
+-- Where the rule is kept, what the rest of the list says; where it is broken, its code.
+abbrev pub rule : Bool → ℕ → ℕ → ℕ
+rule kept code rest = pick kept rest code
+
+-- f holds at each number below n
+abbrev pub allBelow : ℕ → (ℕ → Bool) → Bool
+allBelow zero f = true
+allBelow (suc n) f = both (f n) (allBelow n f)

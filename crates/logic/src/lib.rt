@@ -1,0 +1,39 @@
+// Rules as values: a chain of checks is one expression with no branch, and its proof is a rewrite.
+ghost use mathlib.Core.Path.{_≡_};
+ghost use lib.ListN.{getD};
+ghost use Rattle.logic.specs.Rules.{both, either, rule};
+
+// Whether both rules hold.
+pub fn both(a: bool, b: bool) -> bool
+    ensures { λ r. ⌜ r ≡ both a b ⌝ }
+{
+    if a { b } else { false }
+}
+
+// Whether one of two rules holds.
+pub fn either(a: bool, b: bool) -> bool
+    ensures { λ r. ⌜ r ≡ either a b ⌝ }
+{
+    if a { true } else { b }
+}
+
+// The code of the first rule broken: this one's, or what the rest of the list says.
+pub fn rule(kept: bool, code: u8, rest: u8) -> u8
+    ensures { λ r. ⌜ r ≡ rule kept code rest ⌝ }
+{
+    if kept { rest } else { code }
+}
+
+// The byte at `i`, or 0 past the end.
+pub fn at(bytes: &[u8], i: usize) -> u8
+    ensures { λ r. ⌜ r ≡ getD (now (bytes .entry)) i 0 ⌝ }
+{
+    if i < bytes.len() { bytes[i] } else { 0 }
+}
+
+// A byte as a number that can be added to others.
+pub fn wide(x: u8) -> usize
+    ensures { λ r. ⌜ r ≡ x ⌝ }
+{
+    x as usize
+}

@@ -9,13 +9,14 @@ use borrow.Author.Tests.{eqb-true, ltb-true, eq-eqb, ne-eqb}
 use lib.Dec.{eqb, ltb}
 use lib.Bits.{bitAnd, bitXor}
 use lib.Count.{ones, onesIn, trailingZeros, leadingZeros}
-use lib.ListN.{length, getD}
+use lib.ListN.{length, getD, length-set}
 use lib.Seq.{getD-set-same, getD-set-other}
 use Rattle.logic.specs.Rules.{both, implies, allBelow, pick}
 use Rattle.logic.specs.Bit.{bitOf}
 use Rattle.logic.proofs.Chain.{both-left, both-right, implied}
 use Rattle.logic.proofs.Below.{below}
 use Rattle.logic.proofs.Bits.{bit-xor, bit-and}
+use Rattle.gate.specs.declared.Gate.{Gate}
 use Rattle.gate.specs.declared.Kind.{Kind}
 use Rattle.gate.specs.declared.Kind.the-variants.{Not, Cnot, Toffoli}
 use Rattle.gate.specs.Gates.{targetOf, lawful, step, gateOf}
@@ -100,3 +101,7 @@ module _ (cs : List ℕ) (x v : ℕ) (hx : x < 16) (row : Row cs x v) where
         by-wire : Dec (w ≡ targetOf b) → bitOf x (getD (columnStep (gateOf b) cs) w 0) ≡ bitOf w (step b v)
         by-wire (yes e) = rw e at-target
         by-wire (no n) = elsewhere w hw n
+
+pub length-step : (g : Gate) (cs : List ℕ) → length (columnStep g cs) ≡ length cs
+unfolding columnStep
+length-step g cs = length-set cs (g .target) (bitXor (getD cs (g .target) 0) (firing (g .kind) cs))

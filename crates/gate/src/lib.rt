@@ -204,32 +204,14 @@ pub fn gate_at(w: usize, i: usize) -> u8
     }
 }
 
-// The column of wire `i`, or 0 where there is no such wire.
-fn column_at(columns: [u16; 5], i: usize) -> u16
-    ensures { λ r. ⌜ r ≡ getD columns i 0 ⌝ }
-{
-    if i < 5 { columns[i] } else { 0 }
-}
-
-// The columns with that of wire `i` replaced.
-fn with_column(columns: [u16; 5], i: usize, c: u16) -> [u16; 5]
-    ensures { λ r. ⌜ r ≡ set columns i c ⌝ }
-{
-    let mut next = columns;
-    if i < 5 {
-        next[i] = c;
-    }
-    next
-}
-
 // The rows in which all controls are 1.
 fn firing(kind: Kind, columns: [u16; 5]) -> u16
     ensures { λ r. ⌜ r ≡ firing kind columns ⌝ }
 {
     match kind {
         Kind::Not => 65535,
-        Kind::Cnot(a) => column_at(columns, a),
-        Kind::Toffoli(a, b) => column_at(columns, a) & column_at(columns, b),
+        Kind::Cnot(a) => logic::cell(columns, a),
+        Kind::Toffoli(a, b) => logic::cell(columns, a) & logic::cell(columns, b),
     }
 }
 
@@ -239,6 +221,6 @@ pub fn step_columns(gate: Gate, columns: [u16; 5]) -> [u16; 5]
 {
     let t = gate.target;
     let kind = gate.kind;
-    let flipped = column_at(columns, t) ^ firing(kind, columns);
-    with_column(columns, t, flipped)
+    let flipped = logic::cell(columns, t) ^ firing(kind, columns);
+    logic::with_cell(columns, t, flipped)
 }

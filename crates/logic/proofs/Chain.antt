@@ -1,9 +1,10 @@
 -- What a joined test says of its parts, and what a list of rules that gives 0 says of each rule.
 use mathlib.Core.Path.{_≡_, refl}
+use mathlib.Core.Logic.{_⊎_, inl, inr}
 use mathlib.Core.Bool.{Bool, true, false, false≢true}
 use Prim.Native.Nat.{ℕ, _<_}
 use native.Mathlib.Omega.{arith}
-use Rattle.logic.specs.Rules.{both, implies, rule}
+use Rattle.logic.specs.Rules.{both, either, implies, rule}
 
 pub both-left : (a b : Bool) → both a b ≡ true → a ≡ true
 both-left true b h = refl
@@ -18,6 +19,10 @@ both-true ha hb = rw (ha, hb)
 
 pub both-parts : (a b : Bool) → both a b ≡ true → (a ≡ true) × (b ≡ true)
 both-parts a b h = (both-left a b h, both-right a b h)
+
+pub either-cases : (a b : Bool) → either a b ≡ true → (a ≡ true) ⊎ (b ≡ true)
+either-cases true b h = inl refl
+either-cases false b h = inr h
 
 pub implied : (a b : Bool) → implies a b ≡ true → a ≡ true → b ≡ true
 implied true b h e = h

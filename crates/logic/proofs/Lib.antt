@@ -2,3 +2,4 @@ pub mod Chain
 pub mod Below
 pub mod Fold
 pub mod Bits
+pub mod Cells

@@ -1,6 +1,6 @@
 // Rules as values: a chain of checks is one expression with no branch, and its proof is a rewrite.
 ghost use mathlib.Core.Path.{_≡_};
-ghost use lib.ListN.{getD};
+ghost use lib.ListN.{getD, set};
 ghost use Rattle.logic.specs.Rules.{both, either, rule};
 
 // Whether both rules hold.
@@ -36,4 +36,22 @@ pub fn wide(x: u8) -> usize
     ensures { λ r. ⌜ r ≡ x ⌝ }
 {
     x as usize
+}
+
+// The number at `i` of five, or 0 past the end.
+pub fn cell(cells: [u16; 5], i: usize) -> u16
+    ensures { λ r. ⌜ r ≡ getD cells i 0 ⌝ }
+{
+    if i < 5 { cells[i] } else { 0 }
+}
+
+// The five numbers with `x` at `i`; the same five past the end.
+pub fn with_cell(cells: [u16; 5], i: usize, x: u16) -> [u16; 5]
+    ensures { λ r. ⌜ r ≡ set cells i x ⌝ }
+{
+    let mut next = cells;
+    if i < 5 {
+        next[i] = x;
+    }
+    next
 }

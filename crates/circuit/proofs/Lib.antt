@@ -1,0 +1,4 @@
+pub mod Times
+pub mod Reversal
+pub mod Prefix
+pub mod Gatebound

@@ -1,0 +1,44 @@
+use mathlib.Core.Path.{_≡_, refl, sym, _∙_}
+use Prim.Native.Nat.{_≤_, _-_}
+use native.Mathlib.Omega.{arith}
+use borrow.Author.Needs.{needs}
+use lib.ListN.{length, drop}
+use Rattle.gate.specs.Gates.{step}
+use Rattle.logic.proofs.Fold.{along-more, along-done}
+use Rattle.circuit.specs.Run.{forwards}
+use Rattle.circuit.proofs.forwards.Statement.{statement}
+use Rattle.circuit.proofs.forwards.Tie as tie
+
+abbrev Inv-loop : tie.InvT-loop
+Inv-loop gates value v₀ i₀ v i = (i ≤ length gates) × (forwards (drop i gates) v ≡ forwards gates value)
+
+abbrev μ-loop : tie.MeasureT-loop
+μ-loop gates value v₀ i₀ v i = length gates - i
+
+loop-holds : tie.Need-loop-holds Inv-loop μ-loop
+loop-holds c = (search needs, refl)
+
+loop-again : tie.Need-loop-again Inv-loop μ-loop
+loop-again c =
+    let p = c .before .before .before in
+    let h = along-more step (p .before .before .args .gates .now) (p .loop .i) 0 (p .loop .v) (omega arith) in
+    (omega arith, cc)
+
+returns : tie.Need-returns Inv-loop μ-loop
+returns c =
+    let p = c .before in
+    sym (along-done step (p .before .before .args .gates .now) (p .loop .i) (p .loop .v) (omega arith)) ∙ p .loop .inv .1
+
+pub forwards-spec : {M : Type 1} → statement M
+forwards-spec =
+    tie.close
+    (tie.spec
+    Inv-loop
+    μ-loop
+    loop-holds
+    (λ c. search needs)
+    (λ c κs. search needs)
+    (λ c. search needs)
+    (λ c. search needs)
+    loop-again
+    returns)

@@ -1,0 +1,137 @@
+// Gate lists of any length: running them both ways, their cost, and the ready times of their wires.
+use gate::Gate;
+use gate::Kind;
+ghost use mathlib.Core.Path.{_≡_};
+ghost use Prim.Native.Nat.{ℕ, _≤_, _+_, max};
+ghost use lib.ListN.{length, getD};
+ghost use Rattle.gate.specs.Gates.{gateOf};
+ghost use Rattle.circuit.specs.Run.{forwards, backwards};
+ghost use Rattle.circuit.specs.Measure.{weightFor, weightOf, cost, controlsReady, start, holdControls, hold, holdByte, readyTimes, greatest};
+
+// A price or a duration for each kind of gate.
+pub struct Weights {
+    pub not: u8,
+    pub cnot: u8,
+    pub toffoli: u8,
+}
+
+// The value of the wires after the list, first gate first.
+pub fn forwards(gates: &[u8], value: usize) -> usize
+    ensures { λ r. ⌜ r ≡ forwards (now (gates .entry)) value ⌝ }
+{
+    let mut v = value;
+    let mut i = 0;
+    while i < gates.len() {
+        v = gate::step(gates[i], v);
+        i += 1;
+    }
+    v
+}
+
+// The value of the wires after the list, last gate first.
+pub fn backwards(gates: &[u8], value: usize) -> usize
+    ensures { λ r. ⌜ r ≡ backwards (now (gates .entry)) value ⌝ }
+{
+    let mut v = value;
+    let mut i = gates.len();
+    while 0 < i {
+        i -= 1;
+        v = gate::step(gates[i], v);
+    }
+    v
+}
+
+fn weight_for(weights: Weights, kind: Kind) -> u8
+    ensures { λ r. ⌜ r ≡ weightFor weights kind ⌝ }
+{
+    match kind {
+        Kind::Not => weights.not,
+        Kind::Cnot(_) => weights.cnot,
+        Kind::Toffoli(_, _) => weights.toffoli,
+    }
+}
+
+// The price or duration of a gate byte.
+pub fn weight(weights: Weights, b: u8) -> u8
+    ensures { λ r. ⌜ r ≡ weightOf weights b ⌝ }
+{
+    let g = gate::decode(b);
+    let kind = g.kind;
+    weight_for(weights, kind)
+}
+
+// The cost of a list at these prices.
+pub fn cost(gates: &[u8], prices: Weights) -> u16
+    requires { ⌜ length (now gates) ≤ 256 ⌝ }
+    ensures { λ r. ⌜ r ≡ cost (weightOf prices) (now (gates .entry)) ⌝ }
+{
+    let mut sum: u16 = 0;
+    let mut i = 0;
+    while i < gates.len() {
+        sum += weight(prices, gates[i]) as u16;
+        i += 1;
+    }
+    sum
+}
+
+pub fn later(a: u16, b: u16) -> u16
+    ensures { λ r. ⌜ r ≡ max a b ⌝ }
+{
+    if a < b { b } else { a }
+}
+
+fn controls_ready(kind: Kind, times: [u16; 5]) -> u16
+    ensures { λ r. ⌜ r ≡ controlsReady kind times ⌝ }
+{
+    match kind {
+        Kind::Not => 0,
+        Kind::Cnot(a) => logic::cell(times, a),
+        Kind::Toffoli(a, b) => later(logic::cell(times, a), logic::cell(times, b)),
+    }
+}
+
+fn hold_controls(kind: Kind, end: u16, times: [u16; 5]) -> [u16; 5]
+    ensures { λ r. ⌜ r ≡ holdControls kind end times ⌝ }
+{
+    match kind {
+        Kind::Not => times,
+        Kind::Cnot(a) => logic::with_cell(times, a, end),
+        Kind::Toffoli(a, b) => logic::with_cell(logic::with_cell(times, a, end), b, end),
+    }
+}
+
+// The ready times after one more gate.
+pub fn hold(g: Gate, duration: u8, times: [u16; 5]) -> [u16; 5]
+    requires { ⌜ ((w : ℕ) → getD times w 0 ≤ 65280) ⌝ }
+    ensures { λ r. ⌜ r ≡ hold g duration times ⌝ }
+{
+    let t = g.target;
+    let kind = g.kind;
+    let begin = later(logic::cell(times, t), controls_ready(kind, times));
+    let end = begin + duration as u16;
+    logic::with_cell(hold_controls(kind, end, times), t, end)
+}
+
+// The ready times of the five wires after the list.
+pub fn ready_times(gates: &[u8], durations: Weights) -> [u16; 5]
+    requires { ⌜ length (now gates) ≤ 256 ⌝ }
+    ensures { λ r. ⌜ r ≡ readyTimes (weightOf durations) (now (gates .entry)) ⌝ }
+{
+    let mut times = [0u16; 5];
+    let mut i = 0;
+    while i < gates.len() {
+        let b = gates[i];
+        let next = hold(gate::decode(b), weight(durations, b), times);
+        times = next;
+        i += 1;
+    }
+    times
+}
+
+// The latest of five ready times: the depth.
+pub fn latest(times: [u16; 5]) -> u16
+    ensures { λ r. ⌜ r ≡ greatest times ⌝ }
+{
+    let tail = later(times[2], later(times[3], later(times[4], 0)));
+    later(times[0], later(times[1], tail))
+}

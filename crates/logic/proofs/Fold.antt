@@ -17,6 +17,13 @@ module _ {A : Type 0} (f : A → Bool) where
   unfolding allOf
   all-more l i d h = rw (add-one, drop-cons l i d h)
 
+  -- the same for a test whose result is known
+  pub all-turn : (t : Bool) (l : List A) (i : ℕ) (d : A)
+      → i < length l
+      → f (getD l i d) ≡ t
+      → allOf f (drop i l) ≡ both t (allOf f (drop (i + 1) l))
+  all-turn t l i d h e = rw (← e) (all-more l i d h)
+
   pub all-done : (l : List A) (i : ℕ) → length l ≤ i → allOf f (drop i l) ≡ true
   unfolding allOf
   all-done l i h = rw (drop-of-length-le l h)

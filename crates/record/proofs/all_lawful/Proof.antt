@@ -1,0 +1,56 @@
+use mathlib.Core.Bool.{true, false}
+use mathlib.Core.Path.{_≡_, refl, sym, _∙_}
+use Prim.Native.Nat.{_≤_, _-_}
+use native.Mathlib.Omega.{arith}
+use borrow.Author.Tests.{not-true, not-false}
+use borrow.Author.Needs.{needs}
+use lib.ListN.{length, drop}
+use Rattle.logic.proofs.Fold.{all-turn, all-done}
+use Rattle.gate.specs.Gates.{lawful}
+use Rattle.logic.specs.Lists.{allOf}
+use Rattle.record.proofs.all_lawful.Statement.{statement}
+use Rattle.record.proofs.all_lawful.Tie as tie
+
+abbrev Inv-loop : tie.InvT-loop
+Inv-loop w list i₀ i = (i ≤ length list) × (allOf (lawful 2 w) (drop i list) ≡ allOf (lawful 2 w) list)
+
+abbrev μ-loop : tie.MeasureT-loop
+μ-loop w list i₀ i = length list - i
+
+loop-holds : tie.Need-loop-holds Inv-loop μ-loop
+loop-holds c = (search needs, refl)
+
+returns : tie.Need-returns Inv-loop μ-loop
+returns c =
+    let p = c .before .before .before .before in
+    let s = p .before .before in
+    let e = sym (c .before .lawful .ensures) ∙ not-true _ (c .if1 .taken) in
+    sym (sym (p .loop .inv .1) ∙ all-turn (lawful 2 (s .args .w)) false (s .args .list .now) (p .loop .i) 0 (omega arith) e)
+
+loop-again : tie.Need-loop-again Inv-loop μ-loop
+loop-again c =
+    let p = c .before .before .before .before in
+    let s = p .before .before in
+    let e = sym (c .before .lawful .ensures) ∙ not-false _ (c .if1 .left) in
+    (omega arith, sym (all-turn (lawful 2 (s .args .w)) true (s .args .list .now) (p .loop .i) 0 (omega arith) e) ∙ p .loop .inv .1)
+
+returns-2 : tie.Need-returns-2 Inv-loop μ-loop
+returns-2 c =
+    let p = c .before in
+    let s = p .before .before in
+    sym (sym (p .loop .inv .1) ∙ all-done (lawful 2 (s .args .w)) (s .args .list .now) (p .loop .i) (omega arith))
+
+pub all-lawful-spec : {M : Type 1} → statement M
+all-lawful-spec =
+    tie.close
+    (tie.spec
+    Inv-loop
+    μ-loop
+    loop-holds
+    (λ c. search needs)
+    (λ c κs. search needs)
+    returns
+    (λ c. search needs)
+    (λ c. search needs)
+    loop-again
+    returns-2)

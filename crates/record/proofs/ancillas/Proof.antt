@@ -1,0 +1,11 @@
+use borrow.Author.Needs.{needs}
+use Rattle.record.specs.Jobs.{ancillas}
+use Rattle.record.proofs.ancillas.Statement.{statement}
+use Rattle.record.proofs.ancillas.Tie as tie
+
+returns : tie.Need-returns
+unfolding ancillas
+returns c = cc
+
+pub ancillas-spec : {M : Type 1} → statement M
+ancillas-spec = tie.close (tie.spec (λ c κs. search needs) (λ c κs. search needs) returns)

@@ -1,0 +1,11 @@
+use borrow.Author.Needs.{needs}
+use Rattle.record.specs.Circuits.{countOf}
+use Rattle.record.proofs.count_of.Statement.{statement}
+use Rattle.record.proofs.count_of.Tie as tie
+
+returns : tie.Need-returns
+unfolding countOf
+returns c = cc
+
+pub count-of-spec : {M : Type 1} → statement M
+count-of-spec = tie.close (tie.spec (λ c κs. search needs) (λ c κs. search needs) returns)

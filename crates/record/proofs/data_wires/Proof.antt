@@ -1,0 +1,12 @@
+use native.Mathlib.Omega.{arith}
+use borrow.Author.Needs.{needs}
+use Rattle.record.specs.Jobs.{dataWires}
+use Rattle.record.proofs.data_wires.Statement.{statement}
+use Rattle.record.proofs.data_wires.Tie as tie
+
+returns : tie.Need-returns
+unfolding dataWires
+returns c = (cc, omega arith)
+
+pub data-wires-spec : {M : Type 1} → statement M
+data-wires-spec = tie.close (tie.spec (λ c κs. search needs) (λ c κs. search needs) returns)

@@ -1,0 +1,11 @@
+use borrow.Author.Needs.{needs}
+use Rattle.record.specs.Jobs.{gateLimit}
+use Rattle.record.proofs.gate_limit.Statement.{statement}
+use Rattle.record.proofs.gate_limit.Tie as tie
+
+returns : tie.Need-returns
+unfolding gateLimit
+returns c = cc
+
+pub gate-limit-spec : {M : Type 1} → statement M
+gate-limit-spec = tie.close (tie.spec (λ c κs. search needs) (λ c κs. search needs) returns)

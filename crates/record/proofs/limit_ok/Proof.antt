@@ -1,0 +1,11 @@
+use borrow.Author.Needs.{needs}
+use Rattle.record.specs.Jobs.{limitOk}
+use Rattle.record.proofs.limit_ok.Statement.{statement}
+use Rattle.record.proofs.limit_ok.Tie as tie
+
+returns : tie.Need-returns
+unfolding limitOk
+returns c = cc
+
+pub limit-ok-spec : {M : Type 1} → statement M
+limit-ok-spec = tie.close (tie.spec (λ c κs. search needs) returns)

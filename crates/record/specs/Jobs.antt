@@ -1,0 +1,101 @@
+-- A job record: its fields, and the checks in document 01's order with its numbers.
+use mathlib.Core.Bool.{Bool}
+use mathlib.Core.List.{List}
+use Prim.Native.Nat.{ℕ, _+_, _*_, _/_, _%_, _^_}
+use lib.Bits.{bitAnd}
+use lib.Dec.{ltb, leb, eqb}
+use lib.ListN.{length, getD, drop}
+use Rattle.logic.specs.Rules.{both, either, rule}
+use Rattle.logic.specs.Lists.{allOf}
+use Rattle.circuit.specs.declared.Weights.{Weights}
+use Rattle.circuit.specs.Measure.{weightOf}
+
+-- "Byte 0: n in 3 bits, m in 2": also a circuit's
+unfoldable pub dataWires : List ℕ → ℕ
+dataWires r = getD r 0 0 / 32
+
+unfoldable pub ancillas : List ℕ → ℕ
+ancillas r = getD r 0 0 / 8 % 4
+
+unfoldable pub wires : List ℕ → ℕ
+wires r = dataWires r + ancillas r
+
+-- "free placing in 1 (1 = free)"
+unfoldable pub freeLayout : List ℕ → ℕ
+freeLayout job = getD job 0 0 / 4 % 2
+
+unfoldable pub gateLimit : List ℕ → ℕ
+gateLimit job = getD job 1 0
+
+-- "high byte first"
+abbrev pub word : List ℕ → ℕ → ℕ
+word r i = 256 * getD r i 0 + getD r (i + 1) 0
+
+unfoldable pub costLimit : List ℕ → ℕ
+costLimit job = word job 2
+
+unfoldable pub depthLimit : List ℕ → ℕ
+depthLimit job = word job 4
+
+abbrev pub weightsAt : List ℕ → ℕ → Weights
+weightsAt r i = record { not = getD r i 0; cnot = getD r (i + 1) 0; toffoli = getD r (i + 2) 0 }
+
+unfoldable pub prices : List ℕ → Weights
+prices job = weightsAt job 6
+
+unfoldable pub durations : List ℕ → Weights
+durations job = weightsAt job 9
+
+abbrev pub priceOf : List ℕ → ℕ → ℕ
+priceOf job b = weightOf (prices job) b
+
+abbrev pub durationOf : List ℕ → ℕ → ℕ
+durationOf job b = weightOf (durations job) b
+
+-- "one byte a row: wanted-bits mask in the high four bits, value in the low four"; the care mask is the wanted-bits mask
+abbrev pub rows : List ℕ → List ℕ
+rows job = drop 12 job
+
+abbrev pub careOf : ℕ → ℕ
+careOf row = row / 16
+
+abbrev pub valueOf : ℕ → ℕ
+valueOf row = row % 16
+
+-- "A value bit outside the mask is 0. With n = 3, bit 3 of both is 0."
+unfoldable pub rowOk : ℕ → ℕ → Bool
+rowOk n row = both (eqb (bitAnd (careOf row) (valueOf row)) (valueOf row)) (both (ltb (careOf row) (2 ^ n)) (ltb (valueOf row) (2 ^ n)))
+
+-- "Is it 20 or 28 bytes long? If not, 1."
+unfoldable pub lengthOk : List ℕ → Bool
+lengthOk job = either (eqb (length job) 20) (eqb (length job) 28)
+
+-- "Is n = 3 with 20, n = 4 with 28? If not, 2."
+unfoldable pub sizeOk : List ℕ → Bool
+sizeOk job = either (both (eqb (dataWires job) 3) (eqb (length job) 20)) (both (eqb (dataWires job) 4) (eqb (length job) 28))
+
+-- "Is m 0 or 1, and are byte 0's last two bits zero? If not, 3."
+unfoldable pub headOk : List ℕ → Bool
+headOk job = both (leb (ancillas job) 1) (eqb (getD job 0 0 % 4) 0)
+
+-- "Is the gate limit at most 12? If not, 4."
+unfoldable pub limitOk : List ℕ → Bool
+limitOk job = leb (gateLimit job) 12
+
+-- "Are all durations at least 1? If not, 5."
+unfoldable pub durationsOk : List ℕ → Bool
+durationsOk job = both (leb 1 (durations job .not)) (both (leb 1 (durations job .cnot)) (leb 1 (durations job .toffoli)))
+
+-- "Does every row keep the rules above? If not, 6."
+unfoldable pub rowsOk : List ℕ → Bool
+rowsOk job = allOf (rowOk (dataWires job)) (rows job)
+
+-- the code of the first rule broken, or 0: a job with 0 is document 01's well-formed
+unfoldable pub jobCode : List ℕ → ℕ
+jobCode job =
+    rule (lengthOk job) 1
+    (rule (sizeOk job) 2
+    (rule (headOk job) 3
+    (rule (limitOk job) 4
+    (rule (durationsOk job) 5
+    (rule (rowsOk job) 6 0)))))

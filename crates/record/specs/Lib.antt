@@ -1,0 +1,5 @@
+pub mod Jobs
+pub mod Circuits
+pub mod Layouts
+pub mod Answers
+pub mod Inner

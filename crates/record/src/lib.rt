@@ -1,0 +1,350 @@
+// Job and circuit records: their fields behind functions, the final layouts, and the checks in order.
+use circuit::Weights;
+ghost use mathlib.Core.Path.{_≡_};
+ghost use mathlib.Core.Logic.{_⊎_};
+ghost use Prim.Native.Nat.{_≤_, _<_};
+ghost use lib.ListN.{length, getD};
+ghost use Rattle.logic.specs.Lists.{allOf};
+ghost use Rattle.gate.specs.Gates.{lawful};
+ghost use Rattle.record.specs.Jobs.{dataWires, ancillas, wires, freeLayout, gateLimit, word, costLimit, depthLimit, weightsAt, prices, durations, rowOk, lengthOk, sizeOk, headOk, limitOk, durationsOk, rowsOk, jobCode};
+ghost use Rattle.record.specs.Circuits.{layoutOf, countOf, spanOk, shapeOk, gatesOk, circuitCode};
+ghost use Rattle.record.specs.Layouts.{wireOf, layoutOk, layoutsFor};
+ghost use Rattle.record.specs.Answers.{checkedOf};
+ghost use Rattle.record.specs.Inner.{jobRest, circuitRest};
+
+// What a check finds: the number of the first rule broken, or none.
+pub enum Checked {
+    Refused(u8),
+    Sound,
+}
+
+// The layouts of three and of four outputs, in rising order.
+const LAYOUTS3: [u8; 6] = [0x18, 0x24, 0x48, 0x60, 0x84, 0x90];
+
+const LAYOUTS4: [u8; 24] = [
+    0x1B,
+    0x1E,
+    0x27,
+    0x2D,
+    0x36,
+    0x39,
+    0x4B,
+    0x4E,
+    0x63,
+    0x6C,
+    0x72,
+    0x78,
+    0x87,
+    0x8D,
+    0x93,
+    0x9C,
+    0xB1,
+    0xB4,
+    0xC6,
+    0xC9,
+    0xD2,
+    0xD8,
+    0xE1,
+    0xE4,
+];
+
+// The number of data wires of a record, n.
+pub fn data_wires(bytes: &[u8]) -> usize
+    ensures { λ r. ⌜ r ≡ dataWires (now (bytes .entry)) ⌝ }
+    ensures { λ r. ⌜ r < 8 ⌝ }
+{
+    logic::wide(logic::at(bytes, 0)) / 32
+}
+
+// The number of ancillas of a record, m.
+pub fn ancillas(bytes: &[u8]) -> usize
+    ensures { λ r. ⌜ r ≡ ancillas (now (bytes .entry)) ⌝ }
+{
+    logic::wide(logic::at(bytes, 0)) / 8 % 4
+}
+
+// All wires of a record, W = n + m.
+pub fn wires(bytes: &[u8]) -> usize
+    ensures { λ r. ⌜ r ≡ wires (now (bytes .entry)) ⌝ }
+    ensures { λ r. ⌜ r ≤ 10 ⌝ }
+{
+    let head = logic::wide(logic::at(bytes, 0));
+    head / 32 + head / 8 % 4
+}
+
+pub fn gate_limit(job: &[u8]) -> usize
+    ensures { λ r. ⌜ r ≡ gateLimit (now (job .entry)) ⌝ }
+{
+    logic::wide(logic::at(job, 1))
+}
+
+// 1 where a job leaves the layout free.
+pub fn free_layout(job: &[u8]) -> usize
+    ensures { λ r. ⌜ r ≡ freeLayout (now (job .entry)) ⌝ }
+{
+    logic::wide(logic::at(job, 0)) / 4 % 2
+}
+
+// The number in two bytes, high byte first.
+fn word(bytes: &[u8], i: usize) -> usize
+    requires { ⌜ i < 256 ⌝ }
+    ensures { λ r. ⌜ r ≡ word (now (bytes .entry)) i ⌝ }
+{
+    256 * logic::wide(logic::at(bytes, i)) + logic::wide(logic::at(bytes, i + 1))
+}
+
+pub fn cost_limit(job: &[u8]) -> usize
+    ensures { λ r. ⌜ r ≡ costLimit (now (job .entry)) ⌝ }
+{
+    word(job, 2)
+}
+
+pub fn depth_limit(job: &[u8]) -> usize
+    ensures { λ r. ⌜ r ≡ depthLimit (now (job .entry)) ⌝ }
+{
+    word(job, 4)
+}
+
+fn weights_at(bytes: &[u8], i: usize) -> Weights
+    requires { ⌜ i < 256 ⌝ }
+    ensures { λ r. ⌜ r ≡ weightsAt (now (bytes .entry)) i ⌝ }
+{
+    Weights {
+        not: logic::at(bytes, i),
+        cnot: logic::at(bytes, i + 1),
+        toffoli: logic::at(bytes, i + 2),
+    }
+}
+
+pub fn prices(job: &[u8]) -> Weights
+    ensures { λ r. ⌜ r ≡ prices (now (job .entry)) ⌝ }
+{
+    weights_at(job, 6)
+}
+
+pub fn durations(job: &[u8]) -> Weights
+    ensures { λ r. ⌜ r ≡ durations (now (job .entry)) ⌝ }
+{
+    weights_at(job, 9)
+}
+
+// Whether each output is on a data wire of its own: as many wires are named as there are, so each is named once.
+pub fn layout_ok(n: usize, p: u8) -> bool
+    requires { ⌜ (n ≡ 3) ⊎ (n ≡ 4) ⌝ }
+    ensures { λ r. ⌜ r ≡ layoutOk n p ⌝ }
+{
+    let named = (1u8 << (p / 64)) | (1u8 << (p / 16 % 4)) | (1u8 << (p / 4 % 4));
+    if n == 3 {
+        logic::both(named == 7, p % 4 == 0)
+    } else {
+        named | (1u8 << (p % 4)) == 15
+    }
+}
+
+// How many layouts a job allows.
+pub fn layout_count(n: usize, free: usize) -> usize
+    requires { ⌜ (n ≡ 3) ⊎ (n ≡ 4) ⌝ }
+    ensures { λ r. ⌜ r ≡ length (layoutsFor n free) ⌝ }
+{
+    if free == 1 {
+        if n == 3 { 6 } else { 24 }
+    } else {
+        1
+    }
+}
+
+// The layout at `i` of those that a job allows, or 0 past the last.
+pub fn layout_at(n: usize, free: usize, i: usize) -> u8
+    requires { ⌜ (n ≡ 3) ⊎ (n ≡ 4) ⌝ }
+    ensures { λ r. ⌜ r ≡ getD (layoutsFor n free) i 0 ⌝ }
+{
+    if free == 1 {
+        if n == 3 {
+            logic::at(&LAYOUTS3, i)
+        } else {
+            logic::at(&LAYOUTS4, i)
+        }
+    } else {
+        if n == 3 {
+            logic::at(&[0x18], i)
+        } else {
+            logic::at(&[0x1B], i)
+        }
+    }
+}
+
+fn length_ok(job: &[u8]) -> bool
+    ensures { λ r. ⌜ r ≡ lengthOk (now (job .entry)) ⌝ }
+{
+    logic::either(job.len() == 20, job.len() == 28)
+}
+
+fn size_ok(job: &[u8]) -> bool
+    ensures { λ r. ⌜ r ≡ sizeOk (now (job .entry)) ⌝ }
+{
+    let n = data_wires(job);
+    logic::either(
+        logic::both(n == 3, job.len() == 20),
+        logic::both(n == 4, job.len() == 28),
+    )
+}
+
+fn head_ok(job: &[u8]) -> bool
+    ensures { λ r. ⌜ r ≡ headOk (now (job .entry)) ⌝ }
+{
+    logic::both(ancillas(job) <= 1, logic::at(job, 0) % 4 == 0)
+}
+
+fn limit_ok(job: &[u8]) -> bool
+    ensures { λ r. ⌜ r ≡ limitOk (now (job .entry)) ⌝ }
+{
+    gate_limit(job) <= 12
+}
+
+fn durations_ok(job: &[u8]) -> bool
+    ensures { λ r. ⌜ r ≡ durationsOk (now (job .entry)) ⌝ }
+{
+    let d = durations(job);
+    logic::both(1 <= d.not, logic::both(1 <= d.cnot, 1 <= d.toffoli))
+}
+
+fn row_ok(n: usize, row: u8) -> bool
+    requires { ⌜ n < 64 ⌝ }
+    ensures { λ r. ⌜ r ≡ rowOk n row ⌝ }
+{
+    let care = logic::wide(row) / 16;
+    let value = logic::wide(row) % 16;
+    logic::both(
+        care & value == value,
+        logic::both(care < (1 << n), value < (1 << n)),
+    )
+}
+
+fn all_rows_ok(n: usize, rows: &[u8]) -> bool
+    requires { ⌜ n < 64 ⌝ }
+    ensures { λ r. ⌜ r ≡ allOf (rowOk n) (now (rows .entry)) ⌝ }
+{
+    let mut i = 0;
+    while i < rows.len() {
+        if !row_ok(n, rows[i]) {
+            return false;
+        }
+        i += 1;
+    }
+    true
+}
+
+fn rows_ok(job: &[u8]) -> bool
+    requires { ⌜ 12 ≤ length (now job) ⌝ }
+    ensures { λ r. ⌜ r ≡ rowsOk (now (job .entry)) ⌝ }
+{
+    all_rows_ok(data_wires(job), &job[12..])
+}
+
+fn answer(code: u8) -> Checked
+    ensures { λ r. ⌜ r ≡ checkedOf code ⌝ }
+{
+    if code == 0 {
+        Checked::Sound
+    } else {
+        Checked::Refused(code)
+    }
+}
+
+// The rules of a job after its length.
+fn job_rest(job: &[u8]) -> u8
+    requires { ⌜ 12 ≤ length (now job) ⌝ }
+    ensures { λ r. ⌜ r ≡ jobRest (now (job .entry)) ⌝ }
+{
+    let rest = logic::rule(durations_ok(job), 5, logic::rule(rows_ok(job), 6, 0));
+    logic::rule(
+        size_ok(job),
+        2,
+        logic::rule(head_ok(job), 3, logic::rule(limit_ok(job), 4, rest)),
+    )
+}
+
+// The checks of a job, in order.
+pub fn check_job(job: &[u8]) -> Checked
+    ensures { λ r. ⌜ r ≡ checkedOf (jobCode (now (job .entry))) ⌝ }
+{
+    if !length_ok(job) {
+        return Checked::Refused(1);
+    }
+    answer(job_rest(job))
+}
+
+fn span_ok(c: &[u8]) -> bool
+    ensures { λ r. ⌜ r ≡ spanOk (now (c .entry)) ⌝ }
+{
+    logic::both(3 <= c.len(), c.len() <= 15)
+}
+
+fn shape_ok(c: &[u8]) -> bool
+    ensures { λ r. ⌜ r ≡ shapeOk (now (c .entry)) ⌝ }
+{
+    let n = data_wires(c);
+    let rest = logic::both(ancillas(c) <= 1, logic::at(c, 0) % 8 == 0);
+    logic::both(logic::either(n == 3, n == 4), rest)
+}
+
+fn all_lawful(w: usize, list: &[u8]) -> bool
+    requires { ⌜ w < 64 ⌝ }
+    ensures { λ r. ⌜ r ≡ allOf (lawful 2 w) (now (list .entry)) ⌝ }
+{
+    let mut i = 0;
+    while i < list.len() {
+        if !gate::lawful(2, w, list[i]) {
+            return false;
+        }
+        i += 1;
+    }
+    true
+}
+
+fn gates_ok(c: &[u8]) -> bool
+    requires { ⌜ 3 ≤ length (now c) ⌝ }
+    ensures { λ r. ⌜ r ≡ gatesOk (now (c .entry)) ⌝ }
+{
+    all_lawful(wires(c), &c[3..])
+}
+
+pub fn layout_of(c: &[u8]) -> u8
+    ensures { λ r. ⌜ r ≡ layoutOf (now (c .entry)) ⌝ }
+{
+    logic::at(c, 1)
+}
+
+fn count_of(c: &[u8]) -> usize
+    ensures { λ r. ⌜ r ≡ countOf (now (c .entry)) ⌝ }
+{
+    logic::wide(logic::at(c, 2))
+}
+
+// The rules of a circuit after its length and its byte 0.
+fn circuit_rest(c: &[u8]) -> u8
+    requires { ⌜ 3 ≤ length (now c) ⌝ }
+    requires { ⌜ (dataWires (now c) ≡ 3) ⊎ (dataWires (now c) ≡ 4) ⌝ }
+    ensures { λ r. ⌜ r ≡ circuitRest (now (c .entry)) ⌝ }
+{
+    let count = count_of(c);
+    let rest = logic::rule(count <= 12, 11, logic::rule(gates_ok(c), 21, 0));
+    logic::rule(
+        layout_ok(data_wires(c), layout_of(c)),
+        9,
+        logic::rule(count == c.len() - 3, 10, rest),
+    )
+}
+
+// The checks of a circuit, in order.
+pub fn check_circuit(c: &[u8]) -> Checked
+    ensures { λ r. ⌜ r ≡ checkedOf (circuitCode (now (c .entry))) ⌝ }
+{
+    if !span_ok(c) {
+        return Checked::Refused(7);
+    }
+    if !shape_ok(c) {
+        return Checked::Refused(8);
+    }
+    answer(circuit_rest(c))
+}

@@ -32,13 +32,13 @@ pub fn forwards(gates: &[u8], value: usize) -> usize
 pub fn backwards(gates: &[u8], value: usize) -> usize
     ensures { λ r. ⌜ r ≡ backwards (now (gates .entry)) value ⌝ }
 {
-    let mut v = value;
+    let mut u = value;
     let mut i = gates.len();
     while 0 < i {
         i -= 1;
-        v = gate::step(gates[i], v);
+        u = gate::step(gates[i], u);
     }
-    v
+    u
 }
 
 fn weight_for(weights: Weights, kind: Kind) -> u8

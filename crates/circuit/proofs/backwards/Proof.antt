@@ -10,10 +10,10 @@ use Rattle.circuit.proofs.backwards.Statement.{statement}
 use Rattle.circuit.proofs.backwards.Tie as tie
 
 abbrev Inv-loop : tie.InvT-loop
-Inv-loop gates value v₀ i₀ v i = (i ≤ length gates) × (v ≡ backwards (drop i gates) value)
+Inv-loop gates value u₀ i₀ u i = (i ≤ length gates) × (u ≡ backwards (drop i gates) value)
 
 abbrev μ-loop : tie.MeasureT-loop
-μ-loop gates value v₀ i₀ v i = i
+μ-loop gates value u₀ i₀ u i = i
 
 loop-holds : tie.Need-loop-holds Inv-loop μ-loop
 loop-holds c = (search needs, sym (back-done step (c .before .args .gates .now) (length (c .before .args .gates .now)) (c .before .args .value) (omega arith)))

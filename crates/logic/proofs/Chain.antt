@@ -3,8 +3,10 @@ use mathlib.Core.Path.{_≡_, refl}
 use mathlib.Core.Logic.{_⊎_, inl, inr}
 use mathlib.Core.Bool.{Bool, true, false, false≢true}
 use Prim.Native.Nat.{ℕ, _<_}
+use native.Mathlib.Decide.{ℕ-discrete}
 use native.Mathlib.Omega.{arith}
-use Rattle.logic.specs.Rules.{both, either, implies, rule}
+use borrow.Author.Tests.{eq-eqb, ne-eqb}
+use Rattle.logic.specs.Rules.{both, either, implies, rule, andThen}
 
 pub both-left : (a b : Bool) → both a b ≡ true → a ≡ true
 both-left true b h = refl
@@ -31,3 +33,10 @@ implied false b h e = absurd (false≢true e)
 pub rule-kept : (kept : Bool) (code rest : ℕ) → 0 < code → rule kept code rest ≡ 0 → (kept ≡ true) × (rest ≡ 0)
 rule-kept true code rest p h = (refl, h)
 rule-kept false code rest p h = absurd (omega arith)
+
+pub and-then-zero : (code rest : ℕ) → andThen code rest ≡ 0 → (code ≡ 0) × (rest ≡ 0)
+and-then-zero code rest h = by-code (ℕ-discrete code 0)
+  where
+    by-code : Dec (code ≡ 0) → (code ≡ 0) × (rest ≡ 0)
+    by-code (yes e) = (e, rw (eq-eqb code 0 e) at h)
+    by-code (no n) = absurd (n (rw (ne-eqb code 0 n) at h))

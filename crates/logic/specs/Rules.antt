@@ -1,5 +1,6 @@
 -- Rules that a computer can test: a rule is a Bool, and a list of rules gives the code of the first one broken.
 use mathlib.Core.Bool.{Bool, true, false}
+use lib.Dec.{eqb}
 use Prim.Native.Nat.{ℕ, zero, suc}
 
 abbrev pub both : Bool → Bool → Bool
@@ -21,6 +22,10 @@ pick false a b = b
 -- Where the rule is kept, what the rest of the list says; where it is broken, its code.
 abbrev pub rule : Bool → ℕ → ℕ → ℕ
 rule kept code rest = pick kept rest code
+
+-- Two lists of rules, one after the other: the first one's code, or what the second says where the first breaks none.
+abbrev pub andThen : ℕ → ℕ → ℕ
+andThen code rest = pick (eqb code 0) rest code
 
 -- f holds at each number below n
 abbrev pub allBelow : ℕ → (ℕ → Bool) → Bool

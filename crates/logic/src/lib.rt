@@ -1,7 +1,7 @@
 // Rules as values: a chain of checks is one expression with no branch, and its proof is a rewrite.
 ghost use mathlib.Core.Path.{_≡_};
 ghost use lib.ListN.{getD, set};
-ghost use Rattle.logic.specs.Rules.{both, either, rule};
+ghost use Rattle.logic.specs.Rules.{both, either, implies, rule, andThen};
 
 // Whether both rules hold.
 pub fn both(a: bool, b: bool) -> bool
@@ -17,11 +17,25 @@ pub fn either(a: bool, b: bool) -> bool
     if a { true } else { b }
 }
 
+// Whether the second rule holds, where the first does.
+pub fn implies(a: bool, b: bool) -> bool
+    ensures { λ r. ⌜ r ≡ implies a b ⌝ }
+{
+    if a { b } else { true }
+}
+
 // The code of the first rule broken: this one's, or what the rest of the list says.
 pub fn rule(kept: bool, code: u8, rest: u8) -> u8
     ensures { λ r. ⌜ r ≡ rule kept code rest ⌝ }
 {
     if kept { rest } else { code }
+}
+
+// The code of one list of rules, or of the next where it breaks none.
+pub fn and_then(code: u8, rest: u8) -> u8
+    ensures { λ r. ⌜ r ≡ andThen code rest ⌝ }
+{
+    if code == 0 { rest } else { code }
 }
 
 // The byte at `i`, or 0 past the end.

@@ -264,14 +264,21 @@ fn job_rest(job: &[u8]) -> u8
     )
 }
 
+// The code of the first rule that a job breaks, or 0.
+pub fn job_code(job: &[u8]) -> u8
+    ensures { λ r. ⌜ r ≡ jobCode (now (job .entry)) ⌝ }
+{
+    if !length_ok(job) {
+        return 1;
+    }
+    job_rest(job)
+}
+
 // The checks of a job, in order.
 pub fn check_job(job: &[u8]) -> Checked
     ensures { λ r. ⌜ r ≡ checkedOf (jobCode (now (job .entry))) ⌝ }
 {
-    if !length_ok(job) {
-        return Checked::Refused(1);
-    }
-    answer(job_rest(job))
+    answer(job_code(job))
 }
 
 fn span_ok(c: &[u8]) -> bool
@@ -336,15 +343,22 @@ fn circuit_rest(c: &[u8]) -> u8
     )
 }
 
+// The code of the first rule that a circuit breaks, or 0.
+pub fn circuit_code(c: &[u8]) -> u8
+    ensures { λ r. ⌜ r ≡ circuitCode (now (c .entry)) ⌝ }
+{
+    if !span_ok(c) {
+        return 7;
+    }
+    if !shape_ok(c) {
+        return 8;
+    }
+    circuit_rest(c)
+}
+
 // The checks of a circuit, in order.
 pub fn check_circuit(c: &[u8]) -> Checked
     ensures { λ r. ⌜ r ≡ checkedOf (circuitCode (now (c .entry))) ⌝ }
 {
-    if !span_ok(c) {
-        return Checked::Refused(7);
-    }
-    if !shape_ok(c) {
-        return Checked::Refused(8);
-    }
-    answer(circuit_rest(c))
+    answer(circuit_code(c))
 }

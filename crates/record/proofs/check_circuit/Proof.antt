@@ -1,42 +1,9 @@
-use mathlib.Core.Path.{sym, _∙_}
-use borrow.Author.Tests.{not-true, not-false}
 use borrow.Author.Needs.{needs}
-use Rattle.record.specs.Circuits.{circuitCode}
-use Rattle.record.specs.Inner.{circuitRest}
-use Rattle.record.proofs.Kept.{spanned, data-cases}
 use Rattle.record.proofs.check_circuit.Statement.{statement}
 use Rattle.record.proofs.check_circuit.Tie as tie
 
 returns : tie.Need-returns
-unfolding circuitCode
-returns c = rw (sym (c .before .span-ok .ensures) ∙ not-true _ (c .if1 .taken))
-
-returns-2 : tie.Need-returns-2
-unfolding circuitCode
-returns-2 c =
-    rw (sym (c .before .before .before .span-ok .ensures) ∙ not-false _ (c .before .before .if1 .left), sym (c .before .shape-ok .ensures) ∙ not-true _ (c .if2 .taken))
-
-circuit-rest-requires : tie.Need-circuit-rest-requires
-circuit-rest-requires c κs =
-    let s = c .before .before .before .before .before in (
-      spanned (s .args .c .now) (sym (c .before .before .before .span-ok .ensures) ∙ not-false _ (c .before .before .if1 .left)),
-      data-cases (s .args .c .now) (sym (c .before .shape-ok .ensures) ∙ not-false _ (c .if2 .left)),
-    )
-
-returns-3 : tie.Need-returns-3
-unfolding circuitCode circuitRest
-returns-3 c =
-    let p = c .before .before in
-    rw (sym (p .before .before .before .span-ok .ensures) ∙ not-false _ (p .before .before .if1 .left), sym (p .before .shape-ok .ensures) ∙ not-false _ (p .if2 .left)) (cc)
+returns c = cc
 
 pub check-circuit-spec : {M : Type 1} → statement M
-check-circuit-spec =
-    tie.close
-    (tie.spec
-    (λ c κs. search needs)
-    returns
-    (λ c κs. search needs)
-    returns-2
-    circuit-rest-requires
-    (λ c κs. search needs)
-    returns-3)
+check-circuit-spec = tie.close (tie.spec (λ c κs. search needs) (λ c κs. search needs) returns)

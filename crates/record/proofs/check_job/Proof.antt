@@ -1,23 +1,9 @@
-use mathlib.Core.Path.{sym, _∙_}
-use borrow.Author.Tests.{not-true, not-false}
 use borrow.Author.Needs.{needs}
-use Rattle.record.specs.Jobs.{jobCode}
-use Rattle.record.specs.Inner.{jobRest}
-use Rattle.record.proofs.Kept.{long}
 use Rattle.record.proofs.check_job.Statement.{statement}
 use Rattle.record.proofs.check_job.Tie as tie
 
 returns : tie.Need-returns
-unfolding jobCode
-returns c = rw (sym (c .before .length-ok .ensures) ∙ not-true _ (c .if1 .taken))
-
-job-rest-requires : tie.Need-job-rest-requires
-job-rest-requires c κs = long (c .before .before .before .args .job .now) (sym (c .before .length-ok .ensures) ∙ not-false _ (c .if1 .left))
-
-returns-2 : tie.Need-returns-2
-unfolding jobCode jobRest
-returns-2 c = rw (sym (c .before .before .before .length-ok .ensures) ∙ not-false _ (c .before .before .if1 .left)) (cc)
+returns c = cc
 
 pub check-job-spec : {M : Type 1} → statement M
-check-job-spec =
-    tie.close (tie.spec (λ c κs. search needs) returns job-rest-requires (λ c κs. search needs) returns-2)
+check-job-spec = tie.close (tie.spec (λ c κs. search needs) (λ c κs. search needs) returns)

@@ -4,7 +4,6 @@ use mathlib.Core.Bool.{true}
 use mathlib.Core.Logic.{_⊎_, inl, inr, ⊎-elim}
 use mathlib.Core.List.{List}
 use Prim.Native.Nat.{ℕ, _+_, _-_, _%_, _^_, _≤_, _<_}
-use native.Mathlib.Omega.{arith}
 use borrow.Author.Tests.{eqb-true, leb-true}
 use lib.Dec.{eqb, leb, lit<}
 use lib.ListN.{length, getD}
@@ -112,6 +111,3 @@ sound-circuit c h =
 pub spanned : (c : List ℕ) → spanOk c ≡ true → 3 ≤ length c
 unfolding spanOk
 spanned c h = leb-true 3 (length c) (both-left (leb 3 (length c)) (leb (length c) 15) h)
-
-pub long : (job : List ℕ) → lengthOk job ≡ true → 12 ≤ length job
-long job h = ⊎-elim (λ e. omega arith) (λ e. omega arith) (length-cases job h)

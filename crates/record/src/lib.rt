@@ -6,8 +6,8 @@ ghost use Prim.Native.Nat.{_≤_, _<_};
 ghost use lib.ListN.{length, getD};
 ghost use Rattle.logic.specs.Lists.{allOf};
 ghost use Rattle.gate.specs.Gates.{lawful};
-ghost use Rattle.record.specs.Jobs.{dataWires, ancillas, wires, freeLayout, gateLimit, word, costLimit, depthLimit, weightsAt, prices, durations, rowOk, lengthOk, sizeOk, headOk, limitOk, durationsOk, rowsOk, jobCode};
-ghost use Rattle.record.specs.Circuits.{layoutOf, countOf, spanOk, shapeOk, gatesOk, circuitCode};
+ghost use Rattle.record.specs.Jobs.{dataWires, ancillas, wires, freeLayout, gateLimit, word, costLimit, depthLimit, weightsAt, prices, durations, rows, rowOk, lengthOk, sizeOk, headOk, limitOk, durationsOk, rowsOk, jobCode};
+ghost use Rattle.record.specs.Circuits.{layoutOf, countOf, gates, spanOk, shapeOk, gatesOk, circuitCode};
 ghost use Rattle.record.specs.Layouts.{wireOf, layoutOk, layoutsFor};
 ghost use Rattle.record.specs.Answers.{checkedOf};
 ghost use Rattle.record.specs.Inner.{jobRest, circuitRest};
@@ -128,6 +128,24 @@ pub fn durations(job: &[u8]) -> Weights
     weights_at(job, 9)
 }
 
+// The row bytes of a job.
+pub fn table(job: &[u8]) -> &[u8]
+    ensures { λ r. ⌜ now r ≡ rows (now (job .entry)) ⌝ }
+{
+    if 12 <= job.len() {
+        &job[12..]
+    } else {
+        &job[..0]
+    }
+}
+
+// The gate bytes of a circuit.
+pub fn gate_list(c: &[u8]) -> &[u8]
+    ensures { λ r. ⌜ now r ≡ gates (now (c .entry)) ⌝ }
+{
+    if 3 <= c.len() { &c[3..] } else { &c[..0] }
+}
+
 // Whether each output is on a data wire of its own: as many wires are named as there are, so each is named once.
 pub fn layout_ok(n: usize, p: u8) -> bool
     requires { ⌜ (n ≡ 3) ⊎ (n ≡ 4) ⌝ }
@@ -235,10 +253,9 @@ fn all_rows_ok(n: usize, rows: &[u8]) -> bool
 }
 
 fn rows_ok(job: &[u8]) -> bool
-    requires { ⌜ 12 ≤ length (now job) ⌝ }
     ensures { λ r. ⌜ r ≡ rowsOk (now (job .entry)) ⌝ }
 {
-    all_rows_ok(data_wires(job), &job[12..])
+    all_rows_ok(data_wires(job), table(job))
 }
 
 fn answer(code: u8) -> Checked
@@ -253,7 +270,6 @@ fn answer(code: u8) -> Checked
 
 // The rules of a job after its length.
 fn job_rest(job: &[u8]) -> u8
-    requires { ⌜ 12 ≤ length (now job) ⌝ }
     ensures { λ r. ⌜ r ≡ jobRest (now (job .entry)) ⌝ }
 {
     let rest = logic::rule(durations_ok(job), 5, logic::rule(rows_ok(job), 6, 0));
@@ -310,10 +326,9 @@ fn all_lawful(w: usize, list: &[u8]) -> bool
 }
 
 fn gates_ok(c: &[u8]) -> bool
-    requires { ⌜ 3 ≤ length (now c) ⌝ }
     ensures { λ r. ⌜ r ≡ gatesOk (now (c .entry)) ⌝ }
 {
-    all_lawful(wires(c), &c[3..])
+    all_lawful(wires(c), gate_list(c))
 }
 
 pub fn layout_of(c: &[u8]) -> u8

@@ -1,0 +1,2 @@
+pub mod Realize
+pub mod Calls

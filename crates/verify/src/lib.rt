@@ -1,0 +1,210 @@
+// The public calls on circuits: running both ways, measuring, and verifying (document 01: judging).
+use circuit::Weights;
+ghost use mathlib.Core.Path.{_≡_};
+ghost use mathlib.Core.Logic.{_⊎_};
+ghost use Prim.Native.Nat.{_≤_, _<_};
+ghost use lib.ListN.{length};
+ghost use Rattle.circuit.specs.Run.{forwards, backwards};
+ghost use Rattle.circuit.specs.Measure.{weightOf};
+ghost use Rattle.record.specs.Jobs.{dataWires, jobCode, rows};
+ghost use Rattle.record.specs.Circuits.{circuitCode, gates};
+ghost use Rattle.verify.specs.Realize.{bitAgrees, rowAgrees, agrees, realizes, allowed};
+ghost use Rattle.verify.specs.Calls.{runCode, forwardsOf, backwardsOf, measuresOf, sameWires, measuredOf, measureCode, measureOf, limitsCode, verifyRest, verifyOf};
+
+// Gates, cost and depth.
+pub struct Measures {
+    pub gates: u8,
+    pub cost: u16,
+    pub depth: u16,
+}
+
+// What running answers: the number of the first rule broken, or the value of the wires at the end.
+pub enum Ran {
+    Refused(u8),
+    Value(u8),
+}
+
+// What measuring and verifying answer: the number of the first rule broken, or the circuit's measures.
+pub enum Measured {
+    Refused(u8),
+    Within(Measures),
+}
+
+fn run_code(c: &[u8], value: u8) -> u8
+    ensures { λ r. ⌜ r ≡ runCode (now (c .entry)) value ⌝ }
+{
+    let code = record::circuit_code(c);
+    let w = record::wires(c);
+    logic::and_then(code, logic::rule(logic::wide(value) < (1 << w), 20, 0))
+}
+
+// Runs a circuit from its first gate to its last.
+pub fn run_forwards(c: &[u8], value: u8) -> Ran
+    ensures { λ r. ⌜ r ≡ forwardsOf (now (c .entry)) value ⌝ }
+{
+    let code = run_code(c, value);
+    if code != 0 {
+        return Ran::Refused(code);
+    }
+    Ran::Value(circuit::forwards(record::gate_list(c), logic::wide(value)) as u8)
+}
+
+// Runs a circuit from its last gate to its first.
+pub fn run_backwards(c: &[u8], value: u8) -> Ran
+    ensures { λ r. ⌜ r ≡ backwardsOf (now (c .entry)) value ⌝ }
+{
+    let code = run_code(c, value);
+    if code != 0 {
+        return Ran::Refused(code);
+    }
+    Ran::Value(circuit::backwards(record::gate_list(c), logic::wide(value)) as u8)
+}
+
+// The measures of a gate list.
+pub fn measure_list(list: &[u8], prices: Weights, durations: Weights) -> Measures
+    requires { ⌜ length (now list) ≤ 255 ⌝ }
+    ensures { λ r. ⌜ r ≡ measuresOf (weightOf prices) (weightOf durations) (now (list .entry)) ⌝ }
+{
+    Measures {
+        gates: list.len() as u8,
+        cost: circuit::cost(list, prices),
+        depth: circuit::latest(circuit::ready_times(list, durations)),
+    }
+}
+
+fn same_wires(job: &[u8], c: &[u8]) -> bool
+    ensures { λ r. ⌜ r ≡ sameWires (now (job .entry)) (now (c .entry)) ⌝ }
+{
+    logic::both(
+        record::data_wires(job) == record::data_wires(c),
+        record::ancillas(job) == record::ancillas(c),
+    )
+}
+
+fn measure_code(job: &[u8], c: &[u8]) -> u8
+    ensures { λ r. ⌜ r ≡ measureCode (now (job .entry)) (now (c .entry)) ⌝ }
+{
+    let code = record::job_code(job);
+    let second = record::circuit_code(c);
+    let same = logic::rule(same_wires(job, c), 12, 0);
+    logic::and_then(code, logic::and_then(second, same))
+}
+
+// The measures of a sound circuit at a job's prices and durations.
+fn measures_for(job: &[u8], c: &[u8]) -> Measured
+    requires { ⌜ circuitCode (now c) ≡ 0 ⌝ }
+    ensures { λ r. ⌜ r ≡ measuredOf 0 (now (job .entry)) (now (c .entry)) ⌝ }
+{
+    Measured::Within(measure_list(
+        record::gate_list(c),
+        record::prices(job),
+        record::durations(job),
+    ))
+}
+
+// Measures a circuit at a job's prices and durations.
+pub fn measure(job: &[u8], c: &[u8]) -> Measured
+    ensures { λ r. ⌜ r ≡ measureOf (now (job .entry)) (now (c .entry)) ⌝ }
+{
+    let code = measure_code(job, c);
+    if code != 0 {
+        return Measured::Refused(code);
+    }
+    measures_for(job, c)
+}
+
+// Whether output `j` of a row, where it is wanted, is what the wire laid out for it ends with.
+fn bit_agrees(p: u8, row: u8, v: usize, j: usize) -> bool
+    requires { ⌜ j < 4 ⌝ }
+    ensures { λ r. ⌜ r ≡ bitAgrees p row v j ⌝ }
+{
+    let care = logic::wide(row) / 16;
+    let value = logic::wide(row) % 16;
+    let wire = (logic::wide(p) >> (6 - 2 * j)) % 4;
+    logic::implies((care >> j) % 2 == 1, (v >> wire) % 2 == (value >> j) % 2)
+}
+
+fn row_agrees(p: u8, row: u8, v: usize) -> bool
+    ensures { λ r. ⌜ r ≡ rowAgrees p row v ⌝ }
+{
+    let low = logic::both(
+        bit_agrees(p, row, v, 1),
+        logic::both(bit_agrees(p, row, v, 0), true),
+    );
+    logic::both(
+        bit_agrees(p, row, v, 3),
+        logic::both(bit_agrees(p, row, v, 2), low),
+    )
+}
+
+// Whether the list, with its outputs laid out so, agrees with every row.
+fn table_agrees(p: u8, list: &[u8], table: &[u8]) -> bool
+    ensures { λ r. ⌜ r ≡ agrees p (forwards (now (list .entry))) (now (table .entry)) ⌝ }
+{
+    let mut x = 0;
+    while x < table.len() {
+        if !row_agrees(p, table[x], circuit::forwards(list, x)) {
+            return false;
+        }
+        x += 1;
+    }
+    true
+}
+
+fn realizes(job: &[u8], p: u8, list: &[u8]) -> bool
+    ensures { λ r. ⌜ r ≡ realizes (now (job .entry)) p (now (list .entry)) ⌝ }
+{
+    table_agrees(p, list, record::table(job))
+}
+
+fn allowed(job: &[u8], p: u8) -> bool
+    requires { ⌜ (dataWires (now job) ≡ 3) ⊎ (dataWires (now job) ≡ 4) ⌝ }
+    ensures { λ r. ⌜ r ≡ allowed (now (job .entry)) p ⌝ }
+{
+    let n = record::data_wires(job);
+    if record::free_layout(job) == 1 {
+        record::layout_ok(n, p)
+    } else {
+        if n == 3 { p == 24 } else { p == 27 }
+    }
+}
+
+fn limits_code(job: &[u8], list: &[u8]) -> u8
+    requires { ⌜ length (now list) ≤ 255 ⌝ }
+    ensures { λ r. ⌜ r ≡ limitsCode (now (job .entry)) (now (list .entry)) ⌝ }
+{
+    let m = measure_list(list, record::prices(job), record::durations(job));
+    let deep = logic::rule(m.depth as usize <= record::depth_limit(job), 19, 0);
+    let dear = logic::rule(m.cost as usize <= record::cost_limit(job), 18, deep);
+    logic::rule(m.gates as usize <= record::gate_limit(job), 17, dear)
+}
+
+// The rules of verifying after those of measuring.
+fn verify_rest(job: &[u8], c: &[u8]) -> u8
+    requires { ⌜ jobCode (now job) ≡ 0 ⌝ }
+    requires { ⌜ circuitCode (now c) ≡ 0 ⌝ }
+    ensures { λ r. ⌜ r ≡ verifyRest (now (job .entry)) (now (c .entry)) ⌝ }
+{
+    let p = record::layout_of(c);
+    let met = logic::rule(
+        realizes(job, p, record::gate_list(c)),
+        16,
+        limits_code(job, record::gate_list(c)),
+    );
+    logic::rule(allowed(job, p), 15, met)
+}
+
+// Verifies a circuit for a job: a pass has its measures.
+pub fn verify(job: &[u8], c: &[u8]) -> Measured
+    ensures { λ r. ⌜ r ≡ verifyOf (now (job .entry)) (now (c .entry)) ⌝ }
+{
+    let code = measure_code(job, c);
+    if code != 0 {
+        return Measured::Refused(code);
+    }
+    let rest = verify_rest(job, c);
+    if rest != 0 {
+        return Measured::Refused(rest);
+    }
+    measures_for(job, c)
+}

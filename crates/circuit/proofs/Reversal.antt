@@ -20,6 +20,13 @@ module _ (k w : ℕ) where
   stays (b ∷ gs) v h hv =
       stays gs (step b v) (both-right (lawful k w b) (allOf (lawful k w) gs) h) (stay k w b v (both-left (lawful k w b) (allOf (lawful k w) gs) h) hv)
 
+  pub stays-back : (gs : List ℕ) (v : ℕ) → allOf (lawful k w) gs ≡ true → v < 2 ^ w → backwards gs v < 2 ^ w
+  unfolding allOf back
+  stays-back [] v h hv = hv
+  stays-back (b ∷ gs) v h hv =
+      stay k w b (backwards gs v) (both-left (lawful k w b) (allOf (lawful k w) gs) h)
+      (stays-back gs v (both-right (lawful k w b) (allOf (lawful k w) gs) h) hv)
+
   pub undone : (gs : List ℕ) (v : ℕ) → w ≤ 5 → allOf (lawful k w) gs ≡ true → v < 2 ^ w → backwards gs (forwards gs v) ≡ v
   unfolding allOf along back
   undone [] v hw h hv = refl

@@ -9,7 +9,7 @@ ghost use Rattle.gate.specs.Gates.{lawful};
 ghost use Rattle.record.specs.Jobs.{dataWires, ancillas, wires, freeLayout, gateLimit, word, costLimit, depthLimit, weightsAt, prices, durations, rows, rowOk, lengthOk, sizeOk, headOk, limitOk, durationsOk, rowsOk, jobCode};
 ghost use Rattle.record.specs.Circuits.{layoutOf, countOf, gates, spanOk, shapeOk, gatesOk, circuitCode};
 ghost use Rattle.record.specs.Layouts.{wireOf, layoutOk, layoutsFor};
-ghost use Rattle.record.specs.Answers.{checkedOf};
+ghost use Rattle.record.specs.Answers.{checkedOf, codeOf};
 ghost use Rattle.record.specs.Inner.{jobRest, circuitRest};
 
 // What a check finds: the number of the first rule broken, or none.
@@ -260,6 +260,7 @@ fn rows_ok(job: &[u8]) -> bool
 
 fn answer(code: u8) -> Checked
     ensures { λ r. ⌜ r ≡ checkedOf code ⌝ }
+    ensures { λ r. ⌜ codeOf r ≡ code ⌝ }
 {
     if code == 0 {
         Checked::Sound
@@ -293,6 +294,7 @@ pub fn job_code(job: &[u8]) -> u8
 // The checks of a job, in order.
 pub fn check_job(job: &[u8]) -> Checked
     ensures { λ r. ⌜ r ≡ checkedOf (jobCode (now (job .entry))) ⌝ }
+    ensures { λ r. ⌜ codeOf r ≡ jobCode (now (job .entry)) ⌝ }
 {
     answer(job_code(job))
 }
@@ -374,6 +376,7 @@ pub fn circuit_code(c: &[u8]) -> u8
 // The checks of a circuit, in order.
 pub fn check_circuit(c: &[u8]) -> Checked
     ensures { λ r. ⌜ r ≡ checkedOf (circuitCode (now (c .entry))) ⌝ }
+    ensures { λ r. ⌜ codeOf r ≡ circuitCode (now (c .entry)) ⌝ }
 {
     answer(circuit_code(c))
 }

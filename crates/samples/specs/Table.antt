@@ -54,6 +54,7 @@ samples =
     ∷ isUnlawful 5 34
     ∷ controls 103 3  -- 67 has three controls
     ∷ isUnlawful 4 103
+    ∷ isUnlawful 5 103
     ∷ isLawful 4 96  -- 60 is lawful for four wires, not for three
     ∷ isUnlawful 3 96
     ∷ deep (0 ∷ 32 ∷ []) 1  -- 00 20

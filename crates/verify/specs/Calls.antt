@@ -1,7 +1,7 @@
 -- What running, measuring and verifying (document 01: judging) answer.
-use Prim.Native.Nat.{ℕ, _^_}
 use mathlib.Core.Bool.{Bool}
 use mathlib.Core.List.{List}
+use Prim.Native.Nat.{ℕ, _^_}
 use lib.Dec.{ltb, leb, eqb}
 use lib.ListN.{length}
 use Rattle.logic.specs.Rules.{both, pick, rule, andThen}
@@ -48,11 +48,11 @@ unfoldable pub measureOf : List ℕ → List ℕ → Measured
 measureOf job c = measuredOf (measureCode job c) job c
 
 -- "Gates within the limit? If not, 17. Cost? If not, 18. Depth? If not, 19."
+abbrev pub limitRules : Measures → ℕ → ℕ → ℕ → ℕ
+limitRules m mostGates mostCost mostDepth = rule (leb (m .gates) mostGates) 17 (rule (leb (m .cost) mostCost) 18 (rule (leb (m .depth) mostDepth) 19 0))
+
 unfoldable pub limitsCode : List ℕ → List ℕ → ℕ
-limitsCode job gs =
-    rule (leb (length gs) (gateLimit job)) 17
-    (rule (leb (cost (priceOf job) gs) (costLimit job)) 18
-    (rule (leb (depth (durationOf job) gs) (depthLimit job)) 19 0))
+limitsCode job gs = limitRules (measuresOf (priceOf job) (durationOf job) gs) (gateLimit job) (costLimit job) (depthLimit job)
 
 -- "Placing allowed? If not, 15. Table met? If not, 16."
 unfoldable pub verifyRest : List ℕ → List ℕ → ℕ

@@ -1,7 +1,7 @@
 -- When a gate list and a layout realize a job's table (document 01: meet it), for a list of any length and any layout.
-use Prim.Native.Nat.{ℕ, suc}
 use mathlib.Core.Bool.{Bool, true}
 use mathlib.Core.List.{List, [], _∷_}
+use Prim.Native.Nat.{ℕ, suc}
 use lib.Dec.{eqb}
 use Rattle.logic.specs.Rules.{both, implies, pick, allBelow}
 use Rattle.logic.specs.Bit.{bitOf}

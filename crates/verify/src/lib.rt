@@ -9,7 +9,7 @@ ghost use Rattle.circuit.specs.Measure.{weightOf};
 ghost use Rattle.record.specs.Jobs.{dataWires, jobCode, rows};
 ghost use Rattle.record.specs.Circuits.{circuitCode, gates};
 ghost use Rattle.verify.specs.Realize.{bitAgrees, rowAgrees, agrees, realizes, allowed};
-ghost use Rattle.verify.specs.Calls.{runCode, forwardsOf, backwardsOf, measuresOf, sameWires, measuredOf, measureCode, measureOf, limitsCode, verifyRest, verifyOf};
+ghost use Rattle.verify.specs.Calls.{runCode, forwardsOf, backwardsOf, measuresOf, sameWires, measuredOf, measureCode, measureOf, limitRules, limitsCode, verifyRest, verifyCode, verifyOf, ranCode, measuredCode};
 
 // Gates, cost and depth.
 pub struct Measures {
@@ -41,6 +41,7 @@ fn run_code(c: &[u8], value: u8) -> u8
 // Runs a circuit from its first gate to its last.
 pub fn run_forwards(c: &[u8], value: u8) -> Ran
     ensures { λ r. ⌜ r ≡ forwardsOf (now (c .entry)) value ⌝ }
+    ensures { λ r. ⌜ ranCode r ≡ runCode (now (c .entry)) value ⌝ }
 {
     let code = run_code(c, value);
     if code != 0 {
@@ -52,6 +53,7 @@ pub fn run_forwards(c: &[u8], value: u8) -> Ran
 // Runs a circuit from its last gate to its first.
 pub fn run_backwards(c: &[u8], value: u8) -> Ran
     ensures { λ r. ⌜ r ≡ backwardsOf (now (c .entry)) value ⌝ }
+    ensures { λ r. ⌜ ranCode r ≡ runCode (now (c .entry)) value ⌝ }
 {
     let code = run_code(c, value);
     if code != 0 {
@@ -105,6 +107,7 @@ fn measures_for(job: &[u8], c: &[u8]) -> Measured
 // Measures a circuit at a job's prices and durations.
 pub fn measure(job: &[u8], c: &[u8]) -> Measured
     ensures { λ r. ⌜ r ≡ measureOf (now (job .entry)) (now (c .entry)) ⌝ }
+    ensures { λ r. ⌜ measuredCode r ≡ measureCode (now (job .entry)) (now (c .entry)) ⌝ }
 {
     let code = measure_code(job, c);
     if code != 0 {
@@ -169,14 +172,25 @@ fn allowed(job: &[u8], p: u8) -> bool
     }
 }
 
+fn limit_rules(m: Measures, most_gates: usize, most_cost: usize, most_depth: usize) -> u8
+    ensures { λ r. ⌜ r ≡ limitRules m «most_gates» «most_cost» «most_depth» ⌝ }
+{
+    let deep = logic::rule(m.depth as usize <= most_depth, 19, 0);
+    let dear = logic::rule(m.cost as usize <= most_cost, 18, deep);
+    logic::rule(m.gates as usize <= most_gates, 17, dear)
+}
+
 fn limits_code(job: &[u8], list: &[u8]) -> u8
     requires { ⌜ length (now list) ≤ 255 ⌝ }
     ensures { λ r. ⌜ r ≡ limitsCode (now (job .entry)) (now (list .entry)) ⌝ }
 {
     let m = measure_list(list, record::prices(job), record::durations(job));
-    let deep = logic::rule(m.depth as usize <= record::depth_limit(job), 19, 0);
-    let dear = logic::rule(m.cost as usize <= record::cost_limit(job), 18, deep);
-    logic::rule(m.gates as usize <= record::gate_limit(job), 17, dear)
+    limit_rules(
+        m,
+        record::gate_limit(job),
+        record::cost_limit(job),
+        record::depth_limit(job),
+    )
 }
 
 // The rules of verifying after those of measuring.
@@ -197,6 +211,7 @@ fn verify_rest(job: &[u8], c: &[u8]) -> u8
 // Verifies a circuit for a job: a pass has its measures.
 pub fn verify(job: &[u8], c: &[u8]) -> Measured
     ensures { λ r. ⌜ r ≡ verifyOf (now (job .entry)) (now (c .entry)) ⌝ }
+    ensures { λ r. ⌜ measuredCode r ≡ verifyCode (now (job .entry)) (now (c .entry)) ⌝ }
 {
     let code = measure_code(job, c);
     if code != 0 {

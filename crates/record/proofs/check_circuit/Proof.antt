@@ -1,9 +1,10 @@
+use mathlib.Core.Path.{_∙_}
 use borrow.Author.Needs.{needs}
 use Rattle.record.proofs.check_circuit.Statement.{statement}
 use Rattle.record.proofs.check_circuit.Tie as tie
 
 returns : tie.Need-returns
-returns c = cc
+returns c = (cc, c .answer .ensures .1 ∙ c .before .circuit-code .ensures)
 
 pub check-circuit-spec : {M : Type 1} → statement M
 check-circuit-spec = tie.close (tie.spec (λ c κs. search needs) (λ c κs. search needs) returns)

@@ -1,42 +1,33 @@
+use borrow.Author.Tests.{eq-eqb, ne-eqb}
 use borrow.Author.Needs.{needs}
+use Rattle.verify.specs.Realize.{allowed}
 use Rattle.verify.proofs.allowed.Statement.{statement}
 use Rattle.verify.proofs.allowed.Tie as tie
-use Rattle.verify.proofs.allowed.Reads as reads
-use Rattle.verify.proofs.allowed.Lts as lts
-use Rattle.record.proofs.data_wires.Reads as data-wires-reads
-use Rattle.record.proofs.free_layout.Reads as free-layout-reads
-use Rattle.record.proofs.layout_ok.Reads as layout-ok-reads
 
--- src/lib.rt:164:9
-data-wires-requires : tie.Need-data-wires-requires
-data-wires-requires c κs = search needs
-
--- src/lib.rt:165:8
-free-layout-requires : tie.Need-free-layout-requires
-free-layout-requires c κs = search needs
-
--- src/lib.rt:166:9
 layout-ok-requires : tie.Need-layout-ok-requires
-layout-ok-requires c κs = ?
+layout-ok-requires c κs = rw (c .before .before .data-wires .ensures .0) (c .before .before .before .before .pre)
 
--- src/lib.rt:160:1
 returns : tie.Need-returns
-returns c = ?
+unfolding allowed
+returns c = rw (← c .before .before .free-layout .ensures, eq-eqb _ _ (c .before .if1 .taken), ← c .before .before .before .data-wires .ensures .0) (c .layout-ok .ensures)
 
--- src/lib.rt:160:1
 returns-2 : tie.Need-returns-2
-returns-2 c = ?
+unfolding allowed
+returns-2 c =
+    rw (← c .before .before .free-layout .ensures, ne-eqb _ _ (c .before .if1 .left), ← c .before .before .before .data-wires .ensures .0, c .if2 .taken)
 
--- src/lib.rt:160:1
 returns-3 : tie.Need-returns-3
-returns-3 c = ?
+unfolding allowed
+returns-3 c =
+    let s = c .before .before .before .before .before in
+    rw (← c .before .before .free-layout .ensures, ne-eqb _ _ (c .before .if1 .left), ← c .before .before .before .data-wires .ensures .0, ne-eqb _ _ (c .if2 .left))
 
 pub allowed-spec : {M : Type 1} → statement M
 allowed-spec =
     tie.close
     (tie.spec
-    data-wires-requires
-    free-layout-requires
+    (λ c κs. search needs)
+    (λ c κs. search needs)
     layout-ok-requires
     returns
     returns-2

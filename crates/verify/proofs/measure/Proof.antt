@@ -1,26 +1,25 @@
+use mathlib.Core.Path.{ap, sym, _∙_}
+use borrow.Author.Tests.{ne-eqb}
 use borrow.Author.Needs.{needs}
+use Rattle.verify.specs.Calls.{measuredCode, measureOf}
+use Rattle.verify.proofs.Codes.{measure-parts}
 use Rattle.verify.proofs.measure.Statement.{statement}
 use Rattle.verify.proofs.measure.Tie as tie
-use Rattle.verify.proofs.measure.Reads as reads
-use Rattle.verify.proofs.measure.Lts as lts
-use Rattle.verify.proofs.measure_code.Reads as measure-code-reads
-use Rattle.verify.proofs.measures_for.Reads as measures-for-reads
 
--- src/lib.rt:109:9
-measure-code-requires : tie.Need-measure-code-requires
-measure-code-requires c κs = search needs
-
--- src/lib.rt:111:9
 returns : tie.Need-returns
-returns c = ?
+unfolding measureOf
+returns c = (rw (← c .before .measure-code .ensures, ne-eqb _ _ (c .if1 .taken)), c .before .measure-code .ensures)
 
--- src/lib.rt:113:5
 measures-for-requires : tie.Need-measures-for-requires
-measures-for-requires c κs = ?
+measures-for-requires c κs =
+    let s = c .before .before .before .before in
+    measure-parts (s .args .job .now) (s .args .c .now) (sym (c .before .measure-code .ensures) ∙ c .if1 .left) .1 .0
 
--- src/lib.rt:106:1
 returns-2 : tie.Need-returns-2
-returns-2 c = ?
+unfolding measureOf
+returns-2 c =
+    let e = sym (c .before .before .measure-code .ensures) ∙ c .before .if1 .left in
+    (rw e (c .measures-for .ensures), ap measuredCode (c .measures-for .ensures) ∙ sym e)
 
 pub measure-spec : {M : Type 1} → statement M
-measure-spec = tie.close (tie.spec measure-code-requires returns measures-for-requires returns-2)
+measure-spec = tie.close (tie.spec (λ c κs. search needs) returns measures-for-requires returns-2)

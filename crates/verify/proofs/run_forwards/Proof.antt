@@ -1,49 +1,42 @@
+use mathlib.Core.Path.{ap, _≡_, sym, _∙_}
+use native.Mathlib.Omega.{arith}
+use borrow.Author.Tests.{ne-eqb}
 use borrow.Author.Needs.{needs}
+use Rattle.circuit.specs.Run.{forwards}
+use Rattle.record.specs.Circuits.{gates}
+use Rattle.verify.specs.declared.Ran.the-variants.{Value}
+use Rattle.verify.specs.Calls.{forwardsOf}
+use Rattle.verify.proofs.Codes.{ran-forwards}
 use Rattle.verify.proofs.run_forwards.Statement.{statement}
 use Rattle.verify.proofs.run_forwards.Tie as tie
-use Rattle.verify.proofs.run_forwards.Reads as reads
-use Rattle.verify.proofs.run_forwards.Lts as lts
-use Rattle.circuit.proofs.forwards.Reads as forwards-reads
-use Rattle.logic.proofs.wide.Reads as wide-reads
-use Rattle.record.proofs.gate_list.Reads as gate-list-reads
-use Rattle.verify.proofs.run_code.Reads as run-code-reads
 
--- src/lib.rt:45:9
-run-code-requires : tie.Need-run-code-requires
-run-code-requires c κs = search needs
-
--- src/lib.rt:47:9
 returns : tie.Need-returns
-returns c = ?
+unfolding forwardsOf
+returns c = (rw (← c .before .run-code .ensures, ne-eqb _ _ (c .if1 .taken)), c .before .run-code .ensures)
 
--- src/lib.rt:49:34
-gate-list-requires : tie.Need-gate-list-requires
-gate-list-requires c κs = search needs
-
--- src/lib.rt:49:56
-wide-requires : tie.Need-wide-requires
-wide-requires c κs = search needs
-
--- src/lib.rt:49:16
-forwards-requires : tie.Need-forwards-requires
-forwards-requires c κs = search needs
-
--- src/lib.rt:49:16
 cast-t8 : tie.Need-cast-t8
-cast-t8 c = ?
+cast-t8 c =
+    let s = c .before .before .before .before .before .before in
+    let e = sym (c .before .before .before .before .run-code .ensures) ∙ c .before .before .before .if1 .left in
+    let f : c .forwards .result ≡ forwards (gates (s .args .c .now)) (s .args .value) = cc in
+    omega (arith, ran-forwards (s .args .c .now) (s .args .value) e)
 
--- src/lib.rt:42:1
 returns-2 : tie.Need-returns-2
-returns-2 c = ?
+unfolding forwardsOf
+returns-2 c =
+    let s = c .before .before .before .before .before .before in
+    let e = sym (c .before .before .before .before .run-code .ensures) ∙ c .before .before .before .if1 .left in
+    let f : c .forwards .result ≡ forwards (gates (s .args .c .now)) (s .args .value) = cc in
+    (rw e (ap Value f), sym e)
 
 pub run-forwards-spec : {M : Type 1} → statement M
 run-forwards-spec =
     tie.close
     (tie.spec
-    run-code-requires
+    (λ c κs. search needs)
     returns
-    gate-list-requires
-    wide-requires
-    forwards-requires
+    (λ c κs. search needs)
+    (λ c κs. search needs)
+    (λ c κs. search needs)
     cast-t8
     returns-2)

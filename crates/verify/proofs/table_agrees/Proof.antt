@@ -1,51 +1,50 @@
+use mathlib.Core.Path.{ap, _≡_, refl, sym, _∙_}
+use mathlib.Core.Bool.{true, false}
+use Prim.Native.Nat.{_≤_, _-_}
+use native.Mathlib.Omega.{arith}
+use borrow.Author.Tests.{not-true, not-false}
+use borrow.Author.Needs.{needs}
+use lib.ListN.{getD, length, drop}
+use Rattle.circuit.specs.Run.{forwards}
+use Rattle.verify.specs.Realize.{rowAgrees, agreesFrom, agrees}
+use Rattle.verify.proofs.Rows.{rows-turn, rows-done}
 use Rattle.verify.proofs.table_agrees.Statement.{statement}
 use Rattle.verify.proofs.table_agrees.Tie as tie
-use Rattle.verify.proofs.table_agrees.Reads as reads
-use Rattle.verify.proofs.table_agrees.Lts as lts
-use Rattle.circuit.proofs.forwards.Reads as forwards-reads
-use Rattle.verify.proofs.row_agrees.Reads as row-agrees-reads
 
 abbrev Inv-loop : tie.InvT-loop
-Inv-loop p list table x₀ x = ?
+Inv-loop p list table x₀ x = (x ≤ length table) × (agreesFrom p (forwards list) x (drop x table) ≡ agrees p (forwards list) table)
 
 abbrev μ-loop : tie.MeasureT-loop
-μ-loop p list table x₀ x = ?
+μ-loop p list table x₀ x = length table - x
 
--- src/lib.rt:145:5
 loop-holds : tie.Need-loop-holds Inv-loop μ-loop
-loop-holds c = ?
+loop-holds c = (search needs, refl)
 
--- src/lib.rt:146:27
-shared-slice-read-row-agrees : tie.Need-shared-slice-read-row-agrees Inv-loop μ-loop
-shared-slice-read-row-agrees c = ?
-
--- src/lib.rt:146:37
-forwards-requires : tie.Need-forwards-requires Inv-loop μ-loop
-forwards-requires c κs = ?
-
--- src/lib.rt:146:13
-row-agrees-requires : tie.Need-row-agrees-requires Inv-loop μ-loop
-row-agrees-requires c κs = ?
-
--- src/lib.rt:147:13
 returns : tie.Need-returns Inv-loop μ-loop
-returns c = ?
+returns c =
+    let p = c .before .before .before .before .before in
+    let s = p .before .before .before in
+    let e = sym (c .before .row-agrees .ensures) ∙ not-true _ (c .if1 .taken) in
+    let f = sym (c .before .before .forwards .ensures) in
+    sym (sym (p .loop .inv .1) ∙ rows-turn (s .args .p) (forwards (s .args .list .now)) (s .args .table .now) (p .loop .x) false (omega arith)
+    (ap (rowAgrees (s .args .p) (getD (s .args .table .now) (p .loop .x) 0)) f ∙ e))
 
--- src/lib.rt:149:9
-add-x : tie.Need-add-x Inv-loop μ-loop
-add-x c = ?
-
--- src/lib.rt:145:5
-loop-less : tie.Need-loop-less Inv-loop μ-loop
-loop-less c = ?
-
--- src/lib.rt:145:5
 loop-again : tie.Need-loop-again Inv-loop μ-loop
-loop-again c = ?
+loop-again c =
+    let p = c .before .before .before .before .before in
+    let s = p .before .before .before in
+    let e = sym (c .before .row-agrees .ensures) ∙ not-false _ (c .if1 .left) in
+    let f = sym (c .before .before .forwards .ensures) in (
+      omega arith,
+      sym (rows-turn (s .args .p) (forwards (s .args .list .now)) (s .args .table .now) (p .loop .x) true (omega arith)
+          (ap (rowAgrees (s .args .p) (getD (s .args .table .now) (p .loop .x) 0)) f ∙ e)) ∙ p .loop .inv .1,
+    )
 
--- src/lib.rt:141:1
 returns-2 : tie.Need-returns-2 Inv-loop μ-loop
-returns-2 c = ?
+returns-2 c =
+    let p = c .before in
+    let s = p .before .before .before in
+    sym (sym (p .loop .inv .1) ∙ rows-done (s .args .p) (forwards (s .args .list .now)) (s .args .table .now) (p .loop .x) (omega arith))
 
 pub table-agrees-spec : {M : Type 1} → statement M
 table-agrees-spec =
@@ -54,11 +53,11 @@ table-agrees-spec =
     Inv-loop
     μ-loop
     loop-holds
-    shared-slice-read-row-agrees
-    forwards-requires
-    row-agrees-requires
+    (λ c. search needs)
+    (λ c κs. search needs)
+    (λ c κs. search needs)
     returns
-    add-x
-    loop-less
+    (λ c. search needs)
+    (λ c. search needs)
     loop-again
     returns-2)

@@ -1,0 +1,257 @@
+"""A slow, plain reading of document 01, kept apart from the proved code.
+
+The functions below are written from the paper alone and do the obvious thing
+at every turn, so that a reader can hold them against the paper in one sitting.
+Words: a layout is the paper's placing, a care mask its wanted-bits mask, to
+realize a table is to meet it, and to verify a circuit is to judge it.
+"""
+
+from typing import NamedTuple
+
+GATES_AT_MOST = 12
+PLAIN_LAYOUT = {3: 0x18, 4: 0x1B}
+
+
+def bit(value, i):
+    return (value >> i) & 1
+
+
+# ---- gates ----------------------------------------------------------------
+
+def target_of(gate):
+    """The wire that the gate may flip: the top three bits of its byte."""
+    return gate >> 5
+
+
+def controls_of(gate):
+    """The wires that decide whether it flips: ones among the low five bits."""
+    return [wire for wire in range(5) if bit(gate, wire)]
+
+
+def lawful(gate, wires):
+    """Whether the byte names a gate of a circuit with that many wires."""
+    target, controls = target_of(gate), controls_of(gate)
+    return (target < wires
+            and all(control < wires for control in controls)
+            and target not in controls
+            and len(controls) <= 2)
+
+
+def kind_of(gate):
+    """0 for a NOT, 1 for a CNOT, 2 for a Toffoli."""
+    return len(controls_of(gate))
+
+
+def gate_table(wires):
+    """All lawful gate bytes, rising."""
+    return [gate for gate in range(256) if lawful(gate, wires)]
+
+
+def step(gate, value):
+    """The wires' value after one gate."""
+    if all(bit(value, control) for control in controls_of(gate)):
+        return value ^ (1 << target_of(gate))
+    return value
+
+
+def run(gates, value):
+    """The wires' value after a whole list, first gate first."""
+    for gate in gates:
+        value = step(gate, value)
+    return value
+
+
+def undo(gates, value):
+    """The same list, last gate first."""
+    return run(reversed(gates), value)
+
+
+# ---- measures -------------------------------------------------------------
+
+class Measures(NamedTuple):
+    gates: int
+    cost: int
+    depth: int
+
+
+def ready_times(gates, durations):
+    """For each of five wires, the time from which it is idle for good."""
+    ready = [0] * 5
+    for gate in gates:
+        touched = [target_of(gate)] + controls_of(gate)
+        end = max(ready[wire] for wire in touched) + durations[kind_of(gate)]
+        for wire in touched:
+            ready[wire] = end
+    return ready
+
+
+def measures_of(gates, prices, durations):
+    """Prices and durations are triples: of a NOT, a CNOT, a Toffoli."""
+    cost = sum(prices[kind_of(gate)] for gate in gates)
+    return Measures(len(gates), cost, max(ready_times(gates, durations)))
+
+
+# ---- layouts --------------------------------------------------------------
+
+def layout_wires(layout):
+    """The four 2-bit fields, highest first: the wires of outputs 0, 1, 2, 3."""
+    return [(layout >> shift) & 3 for shift in (6, 4, 2, 0)]
+
+
+def layout_sound(layout, n):
+    """The first n fields name each data wire once; a spare field is zero."""
+    fields = layout_wires(layout)
+    return sorted(fields[:n]) == list(range(n)) and not any(fields[n:])
+
+
+def layouts(n):
+    """Every sound layout byte, rising."""
+    return [layout for layout in range(256) if layout_sound(layout, n)]
+
+
+# ---- records --------------------------------------------------------------
+
+class Job(NamedTuple):
+    n: int
+    m: int
+    free: bool        # any sound layout will do; otherwise only the plain one
+    limits: Measures
+    prices: tuple
+    durations: tuple
+    rows: list        # one pair a row: care mask, value
+
+
+class Circuit(NamedTuple):
+    n: int
+    m: int
+    layout: int
+    gates: list
+
+
+def read_job(job):
+    """The fields of a job that has passed `check_job`."""
+    return Job(job[0] >> 5, (job[0] >> 3) & 3, bool(bit(job[0], 2)),
+               Measures(job[1], 256 * job[2] + job[3], 256 * job[4] + job[5]),
+               tuple(job[6:9]), tuple(job[9:12]),
+               [(row >> 4, row & 15) for row in job[12:]])
+
+
+def read_circuit(circuit):
+    """The fields of a circuit that has passed `check_circuit`."""
+    return Circuit(circuit[0] >> 5, (circuit[0] >> 3) & 3, circuit[1],
+                   list(circuit[3:]))
+
+
+def row_sound(row, n):
+    care, value = row >> 4, row & 15
+    return value & ~care == 0 and care < 2 ** n and value < 2 ** n
+
+
+def check_job(job):
+    """The code of the first rule that a job breaks, 0 for a sound one."""
+    if len(job) not in (20, 28):
+        return 1
+    n = job[0] >> 5
+    if n != {20: 3, 28: 4}[len(job)]:
+        return 2
+    if (job[0] >> 3) & 3 > 1 or job[0] & 3 != 0:
+        return 3
+    if job[1] > GATES_AT_MOST:
+        return 4
+    if min(job[9:12]) < 1:
+        return 5
+    if not all(row_sound(row, n) for row in job[12:]):
+        return 6
+    return 0
+
+
+def check_circuit(circuit):
+    """The code of the first rule that a circuit breaks, 0 for a sound one."""
+    if not 3 <= len(circuit) <= 15:
+        return 7
+    n, m = circuit[0] >> 5, (circuit[0] >> 3) & 3
+    if n not in (3, 4) or m > 1 or circuit[0] & 7 != 0:
+        return 8
+    if not layout_sound(circuit[1], n):
+        return 9
+    if circuit[2] != len(circuit) - 3:
+        return 10
+    if circuit[2] > GATES_AT_MOST:      # cannot happen after 7 and 10
+        return 11
+    if not all(lawful(gate, n + m) for gate in circuit[3:]):
+        return 21
+    return 0
+
+
+# ---- the calls ------------------------------------------------------------
+# Each gives a pair: the refusal code or 0, and the result where it is 0.
+
+def run_call(circuit, value, along):
+    """`along` is `run` for forwards, `undo` for backwards."""
+    code = check_circuit(circuit)
+    if code:
+        return code, None
+    read = read_circuit(circuit)
+    if value >= 2 ** (read.n + read.m):
+        return 20, None
+    return 0, along(read.gates, value)
+
+
+def check_pair(job, circuit):
+    """The rules that measuring and verifying share."""
+    code = check_job(job) or check_circuit(circuit)
+    if code:
+        return code
+    asked, given = read_job(job), read_circuit(circuit)
+    return 0 if (asked.n, asked.m) == (given.n, given.m) else 12
+
+
+def measure_call(job, circuit):
+    code = check_pair(job, circuit)
+    if code:
+        return code, None
+    asked, given = read_job(job), read_circuit(circuit)
+    return 0, measures_of(given.gates, asked.prices, asked.durations)
+
+
+def realizes(gates, layout, rows):
+    """Whether every output bit that some row cares about ends as it asks.
+    Row x starts all wires at x, which leaves an ancilla at 0."""
+    wires = layout_wires(layout)
+    return all(bit(run(gates, x), wires[j]) == bit(value, j)
+               for x, (care, value) in enumerate(rows)
+               for j in range(4) if bit(care, j))
+
+
+def verify_call(job, circuit):
+    code, measured = measure_call(job, circuit)
+    if code:
+        return code, None
+    asked, given = read_job(job), read_circuit(circuit)
+    if not asked.free and given.layout != PLAIN_LAYOUT[asked.n]:
+        return 15, None
+    if not realizes(given.gates, given.layout, asked.rows):
+        return 16, None
+    for code, got, limit in zip((17, 18, 19), measured, asked.limits):
+        if got > limit:
+            return code, None
+    return 0, measured
+
+
+def inversions(values):
+    """How many pairs of rows have the larger value in the earlier row."""
+    return sum(values[i] > values[j]
+               for j in range(len(values)) for i in range(j))
+
+
+def parity_call(job):
+    code = check_job(job)
+    if code:
+        return code, None
+    asked = read_job(job)
+    size = 2 ** asked.n
+    values = [value for _, value in asked.rows]
+    if (any(care != size - 1 for care, _ in asked.rows)
+            or sorted(values) != list(range(size))):
+        return 0, "neither"
+    return 0, "odd" if inversions(values) % 2 else "even"

@@ -1,4 +1,16 @@
 -- The table test by what is left of it: one row, then the rest; nothing at the end.
+use native.Mathlib.Nat.{not-suc-le-zero, le-of-suc-le-suc, add-zero, add-suc, suc-add}
+use borrow.Author.Tests.{eqb-true, eq-eqb}
+use lib.Dec.{eqb}
+use Rattle.logic.specs.Bit.{bitOf}
+use Rattle.logic.proofs.Chain.{both-left, both-right, implied}
+use Rattle.logic.proofs.Below.{below}
+use Rattle.record.specs.Jobs.{careOf, valueOf}
+use Rattle.record.specs.Layouts.{wireOf}
+use mathlib.Core.Path.{subst, sym, _∙_}
+use mathlib.Core.List.{[], _∷_}
+use Prim.Native.Nat.{zero, suc}
+use Rattle.verify.specs.Realize.{bitAgrees}
 use mathlib.Core.Path.{_≡_}
 use mathlib.Core.Bool.{Bool, true}
 use mathlib.Core.List.{List}
@@ -18,3 +30,20 @@ module _ (p : ℕ) (ends : ℕ → ℕ) (table : List ℕ) (x : ℕ) where
   pub rows-done : length table ≤ x → agreesFrom p ends x (drop x table) ≡ true
   unfolding agreesFrom
   rows-done h = rw (drop-of-length-le table h)
+
+-- a table that agrees does so at each row and each wanted bit
+pub agrees-at : (p : ℕ) (ends : ℕ → ℕ) (table : List ℕ) (i x : ℕ) → agreesFrom p ends i table ≡ true → x < length table
+    → rowAgrees p (getD table x 0) (ends (i + x)) ≡ true
+unfolding agreesFrom
+agrees-at p ends [] i x h k = absurd (not-suc-le-zero k)
+agrees-at p ends (row ∷ table) i zero h k =
+    rw (add-zero i) (both-left (rowAgrees p row (ends i)) (agreesFrom p ends (suc i) table) h)
+agrees-at p ends (row ∷ table) i (suc x) h k =
+    subst (λ (y : ℕ). rowAgrees p (getD table x 0) (ends y) ≡ true) (suc-add i x ∙ sym (add-suc i x))
+    (agrees-at p ends table (suc i) x (both-right (rowAgrees p row (ends i)) (agreesFrom p ends (suc i) table) h) (le-of-suc-le-suc k))
+
+pub bit-at : (p row v j : ℕ) → rowAgrees p row v ≡ true → j < 4 → bitOf j (careOf row) ≡ 1 → bitOf (wireOf p j) v ≡ bitOf j (valueOf row)
+unfolding rowAgrees bitAgrees
+bit-at p row v j h k c =
+    eqb-true (bitOf (wireOf p j) v) (bitOf j (valueOf row))
+    (implied (eqb (bitOf j (careOf row)) 1) (eqb (bitOf (wireOf p j) v) (bitOf j (valueOf row))) (below 4 (bitAgrees p row v) h j k) (eq-eqb (bitOf j (careOf row)) 1 c))

@@ -1,0 +1,63 @@
+-- Which choice comes first: the order of document 01, the first good choice of a list, and the list of all choices by prefix.
+use mathlib.Core.Bool.{Bool, true, false}
+use mathlib.Core.List.{List, [], _∷_, _++_, List·Memᴰ}
+use mathlib.Core.Option.{Option, none, some}
+use Prim.Native.Nat.{ℕ, zero, suc}
+use lib.Dec.{ltb}
+use lib.ListN.{take}
+use Rattle.logic.specs.Rules.{pick}
+
+-- one list of gates under one placing, with the list's measures: "cost", "gates", "depth", "placing byte" and "gate bytes"
+pub record Choice : Type 0 where
+  pub cost : ℕ
+  pub gates : ℕ
+  pub depth : ℕ
+  pub layout : ℕ
+  pub bytes : List ℕ
+
+-- "from left to right": the first number that differs decides, and a list comes before the longer lists that begin with it
+unfoldable pub lexLess : List ℕ → List ℕ → Bool
+lexLess [] [] = false
+lexLess [] (y ∷ ys) = true
+lexLess (x ∷ xs) [] = false
+lexLess (x ∷ xs) (y ∷ ys) = pick (ltb x y) true (pick (ltb y x) false (lexLess xs ys))
+
+-- "first by cost, then gates, depth, placing byte, and gate bytes from left to right"
+abbrev pub keys : Choice → List ℕ
+keys a = a .cost ∷ a .gates ∷ a .depth ∷ a .layout ∷ a .bytes
+
+-- a comes before b: "first by cost, then gates, .."
+unfoldable pub before : Choice → Choice → Bool
+before a b = lexLess (keys a) (keys b)
+
+-- of the choice that is held, if any, and a: the one that comes "first"
+unfoldable pub keep : Option Choice → Choice → Option Choice
+keep none a = some a
+keep (some b) a = pick (before a b) (some a) (some b)
+
+-- the same where a is good; a choice that is not good changes nothing
+unfoldable pub attempt : (Choice → Bool) → Option Choice → Choice → Option Choice
+attempt good held a = pick (good a) (keep held a) held
+
+-- the "first" of what is held and the good choices of the list
+unfoldable pub improve : (Choice → Bool) → Option Choice → List Choice → Option Choice
+improve good held [] = held
+improve good held (a ∷ l) = improve good (attempt good held a) l
+
+-- the lists that f makes of the elements, one after the other
+unfoldable pub flatMap : {A B : Type 0} → (A → List B) → List A → List B
+flatMap f [] = []
+flatMap f (x ∷ xs) = f x ++ flatMap f xs
+
+-- every choice whose list begins with l and goes on by at most k of the gates; `here` gives the choices of one list
+unfoldable pub under : (List ℕ → List Choice) → List ℕ → List ℕ → ℕ → List Choice
+under here gates l zero = here l
+under here gates l (suc k) = here l ++ flatMap (λ (g : ℕ). under here gates (l ++ (g ∷ [])) k) gates
+
+-- the part of them that goes on by one of the first i gates, and then by at most k more
+abbrev pub below : (List ℕ → List Choice) → List ℕ → List ℕ → ℕ → ℕ → List Choice
+below here gates l k i = flatMap (λ (g : ℕ). under here gates (l ++ (g ∷ [])) k) (take i gates)
+
+-- every element of e is one of the gates
+abbrev pub Among : List ℕ → List ℕ → Type 0
+Among gates e = (g : ℕ) → List·Memᴰ g e → List·Memᴰ g gates

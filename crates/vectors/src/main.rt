@@ -1,6 +1,10 @@
 // Runs the calls that stand in text files, one to a line, and writes a line for each: its answer, or a heading as it is.
 use libc::STDOUT_FILENO;
+use parity::TableParity;
 use record::Checked;
+use verify::Measured;
+use verify::Measures;
+use verify::Ran;
 ghost use mathlib.Core.Path.{_≡_};
 ghost use Prim.Native.Nat.{_+_, _≤_, _<_, min};
 ghost use lib.ListN.{length};
@@ -9,6 +13,10 @@ ghost use Rattle.io.specs.Counts.{Counts};
 fn main() {
     run_file(b"jobs");
     run_file(b"circuits");
+    run_file(b"running");
+    run_file(b"measuring");
+    run_file(b"verifying");
+    run_file(b"parity");
 }
 
 fn say(text: &[u8]) {
@@ -66,6 +74,11 @@ fn dispatch(letter: u8, first: &[u8], second: &[u8]) {
     match letter {
         b'j' => say_checked(record::check_job(first)),
         b'c' => say_checked(record::check_circuit(first)),
+        b'f' => say_ran(verify::run_forwards(first, logic::at(second, 0))),
+        b'b' => say_ran(verify::run_backwards(first, logic::at(second, 0))),
+        b'm' => say_measured(verify::measure(first, second)),
+        b'v' => say_measured(verify::verify(first, second)),
+        b'p' => say_parity(parity::parity(first)),
         _ => say(b"unknown"),
     }
 }
@@ -74,6 +87,55 @@ fn say_checked(answer: Checked) {
     match answer {
         Checked::Refused(code) => say_refused(code),
         Checked::Sound => say(b"sound"),
+    }
+}
+
+fn say_ran(answer: Ran) {
+    match answer {
+        Ran::Refused(code) => say_refused(code),
+        Ran::Value(value) => say_value(value),
+    }
+}
+
+fn say_value(value: u8) {
+    say(b"value ");
+    say_hex(value / 16);
+    say_hex(value % 16);
+}
+
+fn say_hex(digit: u8) {
+    let d = digit as usize % 16;
+    say_one(b"0123456789ABCDEF", d);
+}
+
+fn say_one(text: &[u8], i: usize) {
+    if i < text.len() {
+        say(&text[i..i + 1]);
+    }
+}
+
+fn say_measured(answer: Measured) {
+    match answer {
+        Measured::Refused(code) => say_refused(code),
+        Measured::Within(m) => say_within(m),
+    }
+}
+
+fn say_within(m: Measures) {
+    say(b"within ");
+    io::print_decimal(STDOUT_FILENO, m.gates as u64);
+    say(b" ");
+    io::print_decimal(STDOUT_FILENO, m.cost as u64);
+    say(b" ");
+    io::print_decimal(STDOUT_FILENO, m.depth as u64);
+}
+
+fn say_parity(answer: TableParity) {
+    match answer {
+        TableParity::Refused(code) => say_refused(code),
+        TableParity::Even => say(b"even"),
+        TableParity::Odd => say(b"odd"),
+        TableParity::Neither => say(b"neither"),
     }
 }
 

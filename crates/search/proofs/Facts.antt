@@ -65,13 +65,21 @@ module _ (job : List ℕ) (sound : jobCode job ≡ 0) where
   unfolding here
   unlisted c m =
       let u = Enumeration.under-is (here job) (gatesOf job) [] (gateLimit job) c m in
-      let q = Memᴰ·of-map (choiceOf job (u .0)) (layoutsFor (dataWires job) (freeLayout job)) (u .1 .1 .1) in
-      (u .0, (q .0, (record {
-        gates-lawful = among-lawful (wires job) narrow (u .0) (u .1 .0);
-        gates-within = u .1 .1 .0;
-        layout-allowed = layout-is job (q .0) (q .1);
-        layout-byte = layout-lt job (q .0) (q .1)
-      }, q .2)))
+      let q = Memᴰ·of-map (choiceOf job (u .0)) (layoutsFor (dataWires job) (freeLayout job)) (u .1 .1 .1) in (
+        u .0,
+        (
+          q .0,
+          (
+            record {
+              gates-lawful = among-lawful (wires job) narrow (u .0) (u .1 .0);
+              gates-within = u .1 .1 .0;
+              layout-allowed = layout-is job (q .0) (q .1);
+              layout-byte = layout-lt job (q .0) (q .1);
+            },
+            q .2,
+          ),
+        ),
+      )
 
   solves : (l : List ℕ) (p : ℕ) → Admitted job l p → good job (choiceOf job l p) ≡ true → Solves job l p
   unfolding good choiceOf
@@ -84,7 +92,7 @@ module _ (job : List ℕ) (sound : jobCode job ≡ 0) where
         admitted = a;
         realized = both-left r (both c d) h;
         cost-within = leb-true (cost (priceOf job) l) (costLimit job) (both-left c d k);
-        depth-within = leb-true (depth (durationOf job) l) (depthLimit job) (both-right c d k)
+        depth-within = leb-true (depth (durationOf job) l) (depthLimit job) (both-right c d k);
       }
 
   solved : (l : List ℕ) (p : ℕ) → Solves job l p → good job (choiceOf job l p) ≡ true
@@ -114,17 +122,17 @@ module _ (job : List ℕ) (sound : jobCode job ≡ 0) where
   winner l p h a =
       let f = First.found (good job) (choices job) (choiceOf job l p) h in
       let first : (e : List ℕ) (q : ℕ) → Solves job e q → ((e ≡ l) × (q ≡ p)) ⊎ (before (choiceOf job l p) (choiceOf job e q) ≡ true)
-          = λ e q s. ⊎-elim
-            (λ (k : choiceOf job e q ≡ choiceOf job l p). inl (same-choice e l q p k))
-            (λ (k : before (choiceOf job l p) (choiceOf job e q) ≡ true). inr k)
-            (f .1 .1 (choiceOf job e q) (listed e q (s .admitted)) (solved e q s)) in
+      = λ e q s. ⊎-elim
+      (λ (k : choiceOf job e q ≡ choiceOf job l p). inl (same-choice e l q p k))
+      (λ (k : before (choiceOf job l p) (choiceOf job e q) ≡ true). inr k)
+      (f .1 .1 (choiceOf job e q) (listed e q (s .admitted)) (solved e q s)) in
       record {
         solution = solves l p a (f .1 .0);
         foremost = first;
         cheapest = λ e q s. ⊎-elim
-          (λ (k : (e ≡ l) × (q ≡ p)). rw (k .0) (omega arith))
-          (λ (k : before (choiceOf job l p) (choiceOf job e q) ≡ true). before-cost l p e q k)
-          (first e q s)
+            (λ (k : (e ≡ l) × (q ≡ p)). rw (k .0) (omega arith))
+            (λ (k : before (choiceOf job l p) (choiceOf job e q) ≡ true). before-cost l p e q k)
+            (first e q s);
       }
 
   first-member : (c : Choice) → firstGood job ≡ some c → List·Memᴰ c (choices job)
@@ -163,19 +171,28 @@ module _ (job : List ℕ) (sound : jobCode job ≡ 0) where
             let w = rw e at k in
             let u = unlisted c (first-member c e) in
             let b : recordOf job c ≡ bytes = cc in
-            let n : measuresIn c ≡ m = cc in
-            (u .0, (u .1 .0, (winner (u .0) (u .1 .0) (e ∙ ap some (sym (u .1 .1 .1))) (u .1 .1 .0),
-              (sym b ∙ ap (recordOf job) (sym (u .1 .1 .1)) ∙ record-is (u .0) (u .1 .0), sym n ∙ ap measuresIn (sym (u .1 .1 .1)) ∙ measures-are (u .0) (u .1 .0)))))
+            let n : measuresIn c ≡ m = cc in (
+              u .0,
+              (
+                u .1 .0,
+                (
+                  winner (u .0) (u .1 .0) (e ∙ ap some (sym (u .1 .1 .1))) (u .1 .1 .0),
+                  (sym b ∙ ap (recordOf job) (sym (u .1 .1 .1)) ∙ record-is (u .0) (u .1 .0), sym n ∙ ap measuresIn (sym (u .1 .1 .1)) ∙ measures-are (u .0) (u .1 .0)),
+                ),
+              ),
+            )
 
     -- 2. "None" exactly when no choice solves the job.
     pub none-is : (searchOf job room ≡ refusal 14) ↔ ((l : List ℕ) (p : ℕ) → Solves job l p → ⊥)
     none-is = (
       (λ h l p s. by-none (firstGood job) refl (sym past ∙ h) l p s),
-      (λ f. by-some (firstGood job) refl f))
+      (λ f. by-some (firstGood job) refl f),
+    )
       where
         by-none : (o : Option Choice) → firstGood job ≡ o → outcomeOf job (firstGood job) ≡ refusal 14 → (l : List ℕ) (p : ℕ) → Solves job l p → ⊥
         by-none none e k l p s = true≢false (sym (solved l p s) ∙ none-good e (choiceOf job l p) (listed l p (s .admitted)))
         by-none (some c) e k l p s = let w = rw e at k in let z : _≡_ {A = ℕ} 0 1 = cc in omega arith
+
         by-some : (o : Option Choice) → firstGood job ≡ o → ((l : List ℕ) (p : ℕ) → Solves job l p → ⊥) → searchOf job room ≡ refusal 14
         by-some none e f = past ∙ ap (outcomeOf job) e
         by-some (some c) e f =

@@ -113,6 +113,7 @@ module _ (job : List ℕ) where
       three-or-four : (t : Bool) → pick t 24 27 < 256
       three-or-four true = lit< tt
       three-or-four false = lit< tt
+
       by-free : (t : Bool) → List·Memᴰ p (pick t (filter (layoutOk (dataWires job)) (count 0 256)) (plain (dataWires job) ∷ [])) → p < 256
       by-free true k = count-is 256 0 p (filter-is (layoutOk (dataWires job)) (count 0 256) p k .1) .1
       by-free false k = rw (List·Memᴰ·eq-of-singleton k) (three-or-four (eqb (dataWires job) 3))

@@ -1,0 +1,55 @@
+use mathlib.Core.Path.{_≡_, sym}
+use Prim.Native.Nat.{_≤_, _<_, _-_, _+_, _*_}
+use native.Mathlib.Omega.{arith}
+use borrow.Author.Needs.{needs}
+use lib.ListN.{length, drop, length-drop}
+use Rattle.logic.proofs.Fold.{back-more, back-done}
+use Rattle.slices.specs.Wanted.{shiftIn, columnOf, rowBit}
+use Rattle.slices.proofs.Bits.{column-fits}
+use Rattle.slices.proofs.column.Statement.{statement}
+use Rattle.slices.proofs.column.Tie as tie
+
+abbrev Inv-loop : tie.InvT-loop
+Inv-loop care j table bits₀ x₀ bits x = (x ≤ length table) × (bits < 65536) × (bits ≡ columnOf (rowBit care j) (drop x table))
+
+abbrev μ-loop : tie.MeasureT-loop
+μ-loop care j table bits₀ x₀ bits x = x
+
+loop-holds : tie.Need-loop-holds Inv-loop μ-loop
+loop-holds c = (omega arith, omega arith, sym (back-done (shiftIn (rowBit (c .before .args .care) (c .before .args .j))) (c .before .args .table .now) (length (c .before .args .table .now)) 0 (omega arith)))
+
+loop-again : tie.Need-loop-again Inv-loop μ-loop
+loop-again c =
+    let p = c .before .before .before in
+    let s = p .before .before in
+    let f = rowBit (s .args .care) (s .args .j) in
+    let table = s .args .table .now in
+    let e : p .loop .x - 1 + 1 ≡ p .loop .x = omega arith in
+    let h = back-more (shiftIn f) table (p .loop .x - 1) 0 0 (omega arith) in
+    let k = rw e at h in
+    let l = length-drop (p .loop .x - 1) table in
+    let b = column-fits (s .args .care) (s .args .j) (drop (p .loop .x - 1) table) (omega arith) in
+    let v : c .row-bit .result + 2 * p .loop .bits ≡ columnOf f (drop (p .loop .x - 1) table) = cc in
+    (omega arith, omega arith, v)
+
+returns : tie.Need-returns Inv-loop μ-loop
+returns c =
+    let e : c .before .loop .x ≡ 0 = omega arith in
+    rw e at (c .before .loop .inv .2)
+
+pub column-spec : {M : Type 1} → statement M
+column-spec =
+    tie.close
+    (tie.spec
+    Inv-loop
+    μ-loop
+    loop-holds
+    (λ c. search needs)
+    (λ c. search needs)
+    (λ c κs. search needs)
+    (λ c. search needs)
+    (λ c. search needs)
+    (λ c. search needs)
+    loop-again
+    (λ c. search needs)
+    returns)

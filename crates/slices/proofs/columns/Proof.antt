@@ -1,0 +1,13 @@
+use borrow.Author.Needs.{needs}
+use Rattle.slices.specs.Wanted.{columnsOf}
+use Rattle.slices.proofs.columns.Statement.{statement}
+use Rattle.slices.proofs.columns.Tie as tie
+
+returns : tie.Need-returns
+unfolding columnsOf
+returns c = cc
+
+pub columns-spec : {M : Type 1} → statement M
+columns-spec =
+    tie.close
+    (tie.spec (λ c κs. search needs) (λ c κs. search needs) (λ c κs. search needs) (λ c κs. search needs) returns)

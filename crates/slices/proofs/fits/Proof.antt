@@ -1,0 +1,9 @@
+use borrow.Author.Needs.{needs}
+use Rattle.slices.proofs.fits.Statement.{statement}
+use Rattle.slices.proofs.fits.Tie as tie
+
+returns : tie.Need-returns
+returns c = cc
+
+pub fits-spec : {M : Type 1} → statement M
+fits-spec = tie.close (tie.spec (λ c κs. search needs) (λ c. search needs) (λ c. search needs) (λ c. search needs) (λ c κs. search needs) returns)

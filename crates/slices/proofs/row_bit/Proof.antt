@@ -1,0 +1,16 @@
+use borrow.Author.Needs.{needs}
+use Rattle.slices.specs.Wanted.{rowBit}
+use Rattle.slices.proofs.row_bit.Statement.{statement}
+use Rattle.slices.proofs.row_bit.Tie as tie
+
+returns : tie.Need-returns
+unfolding rowBit
+returns c = (rw (c .before .if1 .taken) (cc), search needs)
+
+returns-2 : tie.Need-returns-2
+unfolding rowBit
+returns-2 c = (rw (c .before .if1 .left) (cc), search needs)
+
+pub row-bit-spec : {M : Type 1} → statement M
+row-bit-spec =
+    tie.close (tie.spec (λ c κs. search needs) (λ c. search needs) (λ c κs. search needs) (λ c. search needs) returns returns-2)

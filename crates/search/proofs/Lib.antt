@@ -1,2 +1,4 @@
 pub mod Members
 pub mod Facts
+pub mod Nodes
+pub mod Cuts

@@ -135,6 +135,7 @@ fn hopeless(
     best: Best,
 ) -> bool
     requires { ⌜ At (now job) task s path n ⌝ }
+    requires { ⌜ n ≤ 12 ⌝ }
     ensures { λ r. ⌜ (r ≡ true → lookedUnder (now (job .entry)) (take n path) remaining (view best) ≡ view best) ⌝ }
 {
     let cost = s.cost;

@@ -2,3 +2,4 @@ pub mod Members
 pub mod Facts
 pub mod Nodes
 pub mod Cuts
+pub mod Walk

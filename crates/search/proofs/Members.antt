@@ -64,7 +64,7 @@ count-has (suc n) i b h k = by-first (ℕ-discrete b i) (λ g. count-has n (suc 
     by-first (no d) rest = List·Memᴰ.List·Memᴰ·tail (rest (omega arith))
 
 module _ (w : ℕ) (hw : w ≤ 5) where
-  gate-is : (b : ℕ) → List·Memᴰ b (gatesFor 2 w) → lawful 2 w b ≡ true
+  pub gate-is : (b : ℕ) → List·Memᴰ b (gatesFor 2 w) → lawful 2 w b ≡ true
   unfolding gatesFor
   gate-is b m = filter-is (lawful 2 w) (count 0 256) b m .0
 

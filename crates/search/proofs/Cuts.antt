@@ -80,21 +80,21 @@ module _ (job : List ℕ) (sound : jobCode job ≡ 0) (l : List ℕ) (k : ℕ) w
   skip-all x f =
       skip (here job) (gatesOf job) l k (good job) x
       (λ e among short a m.
-        let q = Memᴰ·of-map (choiceOf job (l ++ e)) (layoutsFor (dataWires job) (freeLayout job)) m in
-        ap (attempt (good job) x) (sym (q .2))
-        ∙ f e (among-lawful (wires job) (wires-most job sound) e among) short (q .0) (q .1))
+      let q = Memᴰ·of-map (choiceOf job (l ++ e)) (layoutsFor (dataWires job) (freeLayout job)) m in
+      ap (attempt (good job) x) (sym (q .2))
+      ∙ f e (among-lawful (wires job) (wires-most job sound) e among) short (q .0) (q .1))
 
   -- the cost never falls, so a list above the limit stays above it
   pub cut-limit : (x : Option Choice) → costLimit job < cost (priceOf job) l → lookedUnder job l k x ≡ x
   cut-limit x h =
       skip-all x (λ e lawful-e short p m.
-        attempt-not (good job) x (choiceOf job (l ++ e) p) (dear job (l ++ e) p (omega (arith, cost-front (priceOf job) (durationOf job) l e))))
+      attempt-not (good job) x (choiceOf job (l ++ e) p) (dear job (l ++ e) p (omega (arith, cost-front (priceOf job) (durationOf job) l e))))
 
   -- no ready time falls, so neither does the depth
   pub cut-depth : (x : Option Choice) → depthLimit job < depth (durationOf job) l → lookedUnder job l k x ≡ x
   cut-depth x h =
       skip-all x (λ e lawful-e short p m.
-        attempt-not (good job) x (choiceOf job (l ++ e) p) (deep job (l ++ e) p (omega (arith, depth-front (priceOf job) (durationOf job) l e))))
+      attempt-not (good job) x (choiceOf job (l ++ e) p) (deep job (l ++ e) p (omega (arith, depth-front (priceOf job) (durationOf job) l e))))
 
   held : (b : Best) → b .found ≡ true → view b ≡ some (choice b)
   unfolding view
@@ -106,8 +106,8 @@ module _ (job : List ℕ) (sound : jobCode job ≡ 0) (l : List ℕ) (k : ℕ) w
   cut-cost b f h =
       rw (held b f)
       (skip-all (some (choice b)) (λ e lawful-e short p m.
-        attempt-after (good job) (choiceOf job (l ++ e) p) (choice b)
-        (after-cost (choiceOf job (l ++ e) p) (choice b) (omega (arith, cost-front (priceOf job) (durationOf job) l e)))))
+      attempt-after (good job) (choiceOf job (l ++ e) p) (choice b)
+      (after-cost (choiceOf job (l ++ e) p) (choice b) (omega (arith, cost-front (priceOf job) (durationOf job) l e)))))
 
   -- nor does one that costs as much and is longer; one of equal length may still win by depth, layout or bytes
   pub cut-gates : (b : Best) → b .found ≡ true → b .cost ≡ cost (priceOf job) l → b .len < length l → lookedUnder job l k (view b) ≡ view b
@@ -115,9 +115,9 @@ module _ (job : List ℕ) (sound : jobCode job ≡ 0) (l : List ℕ) (k : ℕ) w
   cut-gates b f h g =
       rw (held b f)
       (skip-all (some (choice b)) (λ e lawful-e short p m.
-        attempt-after (good job) (choiceOf job (l ++ e) p) (choice b)
-        (after-gates (choiceOf job (l ++ e) p) (choice b) (omega (arith, cost-front (priceOf job) (durationOf job) l e))
-        (omega (arith, gates-front (priceOf job) (durationOf job) l e)))))
+      attempt-after (good job) (choiceOf job (l ++ e) p) (choice b)
+      (after-gates (choiceOf job (l ++ e) p) (choice b) (omega (arith, cost-front (priceOf job) (durationOf job) l e))
+      (omega (arith, gates-front (priceOf job) (durationOf job) l e)))))
 
   -- each output that no wire has yet wants a gate of its own
   pub cut-lost : (x : Option Choice) → allOf (lawful 2 (wires job)) l ≡ true
@@ -126,8 +126,8 @@ module _ (job : List ℕ) (sound : jobCode job ≡ 0) (l : List ℕ) (k : ℕ) w
   unfolding nodeOf
   cut-lost x kept h =
       skip-all x (λ e lawful-e short p m.
-        attempt-not (good job) x (choiceOf job (l ++ e) p)
-        (unrealized job (l ++ e) p (by-answer e p (realizes job p (l ++ e)) refl (λ r. lost-few job sound l e kept lawful-e p m r) short)))
+      attempt-not (good job) x (choiceOf job (l ++ e) p)
+      (unrealized job (l ++ e) p (by-answer e p (realizes job p (l ++ e)) refl (λ r. lost-few job sound l e kept lawful-e p m r) short)))
     where
       by-answer : (e : List ℕ) (p : ℕ) (t : Bool) → realizes job p (l ++ e) ≡ t
           → (realizes job p (l ++ e) ≡ true → lost (wantedOf job) (nodeOf job l .columns) (dataWires job) (freeLayout job) ≤ length e)
@@ -168,5 +168,5 @@ module _ (job : List ℕ) (task : Task) (s : Node) (path : List ℕ) (n : ℕ) (
   unfolding taskOf
   at-lost x h =
       let e : lost (task .wanted) (s .columns) (task .outputs) (task .free) ≡ lost (wantedOf job) (nodeOf job (take n path) .columns) (dataWires job) (freeLayout job)
-          = rw (a .tasked, a .reached) in
+      = rw (a .tasked, a .reached) in
       cut-lost job (a .sound) (take n path) k x (a .kept) (omega arith)

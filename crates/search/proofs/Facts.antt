@@ -228,3 +228,14 @@ module _ (job : List ℕ) (sound : jobCode job ≡ 0) where
 
     pub odd-none : (room : ℕ) → 15 ≤ room → searchOf job room ≡ refusal 14
     odd-none room wide = none-is room wide .1 unsolved
+
+    pub odd-first : firstGood job ≡ none
+    unfolding firstGood
+    odd-first =
+        First.nothing (good job) (choices job) .1 (λ c m.
+        let u = unlisted c m in
+        by-test c (good job c) refl (λ h. unsolved (u .0) (u .1 .0) (solves (u .0) (u .1 .0) (u .1 .1 .0) (ap (good job) (u .1 .1 .1) ∙ h))))
+      where
+        by-test : (c : Choice) (t : Bool) → good job c ≡ t → (good job c ≡ true → ⊥) → good job c ≡ false
+        by-test c false e f = e
+        by-test c true e f = absurd (f e)

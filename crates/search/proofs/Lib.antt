@@ -3,3 +3,4 @@ pub mod Facts
 pub mod Nodes
 pub mod Cuts
 pub mod Walk
+pub mod Answer

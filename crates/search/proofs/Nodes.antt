@@ -66,7 +66,7 @@ module _ (job : List ℕ) (task : Task) (s : Node) (path : List ℕ) (n : ℕ) (
         gates = (hl ∙ sym l) i;
         depth = (hd ∙ ap (λ (x : Node). greatest (x .times)) (a .reached)) i;
         layout = hp i;
-        bytes = take (hl i) (hb i)
+        bytes = take (hl i) (hb i);
       }
 
   pub outputs-are : (task .outputs ≡ 3) ⊎ (task .outputs ≡ 4)

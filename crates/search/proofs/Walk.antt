@@ -49,7 +49,7 @@ at-more job task s next path n i g a hn hi hg e hc ht =
       reached = rw l (e ∙ rw (a .tasked, a .reached) (node-snoc job (take n path) g));
       kept = rw l (all-append (lawful 2 (wires job)) (take n path) (g ∷ []) ∙ both-true (a .kept) (both-true k refl));
       early = λ v. le-trans (ht (255 * n) (a .early) v) (omega arith);
-      cheap = omega arith
+      cheap = omega arith;
     }
 
 module _ (job l : List ℕ) (k : ℕ) where

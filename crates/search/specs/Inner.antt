@@ -1,15 +1,18 @@
 -- The state of the search, for the contracts of its private functions.
 use mathlib.Core.Path.{_≡_}
-use mathlib.Core.Bool.{true}
+use mathlib.Core.Bool.{Bool, true}
 use mathlib.Core.List.{List}
 use mathlib.Core.Option.{Option}
 use Prim.Native.Nat.{ℕ, _+_, _*_, _≤_}
+use lib.Dec.{eqb}
 use lib.ListN.{getD, take}
 use Rattle.logic.specs.Lists.{allOf, along}
 use Rattle.gate.specs.Gates.{lawful, gateOf}
 use Rattle.gate.specs.Inner.{columnStep}
 use Rattle.circuit.specs.Measure.{weightOf, cost, hold, readyTimes}
-use Rattle.record.specs.Jobs.{dataWires, wires, freeLayout, costLimit, depthLimit, prices, durations, priceOf, durationOf, jobCode}
+use Rattle.record.specs.Jobs.{dataWires, ancillas, wires, freeLayout, costLimit, depthLimit, prices, durations, priceOf, durationOf, jobCode}
+use Rattle.logic.specs.Rules.{both}
+use Rattle.parity.specs.Parity.{oddTable}
 use Rattle.slices.specs.Wanted.{wantedOf, startColumns}
 use Rattle.choice.specs.Choices.{Choice, improve, under}
 use Rattle.search.specs.declared.Task.{Task}
@@ -26,7 +29,7 @@ taskOf job = record {
   «depth_limit» = depthLimit job;
   outputs = dataWires job;
   wires = wires job;
-  free = freeLayout job
+  free = freeLayout job;
 }
 
 -- where a list leads: the columns of its wires, their ready times, and its cost
@@ -34,7 +37,7 @@ unfoldable pub nodeOf : List ℕ → List ℕ → Node
 nodeOf job l = record {
   columns = along (λ b. columnStep (gateOf b)) l startColumns;
   times = readyTimes (durationOf job) l;
-  cost = cost (priceOf job) l
+  cost = cost (priceOf job) l;
 }
 
 -- one gate further
@@ -42,7 +45,7 @@ unfoldable pub advanced : Task → ℕ → Node → Node
 advanced task g s = record {
   columns = columnStep (gateOf g) (s .columns);
   times = hold (gateOf g) (weightOf (task .durations) g) (s .times);
-  cost = s .cost + weightOf (task .prices) g
+  cost = s .cost + weightOf (task .prices) g;
 }
 
 -- what is known at a node: the list so far is the first n bytes of the path, its gates are lawful, and its sums fit
@@ -57,3 +60,7 @@ pub record At (job : List ℕ) (task : Task) (s : Node) (path : List ℕ) (n : �
 -- what is held once everything below a list was looked at
 unfoldable pub lookedUnder : List ℕ → List ℕ → ℕ → Option Choice → Option Choice
 lookedUnder job l k held = improve (good job) held (under (here job) (gatesOf job) l k)
+
+-- four data wires, no ancilla, an odd permutation
+unfoldable pub alwaysNone : List ℕ → Bool
+alwaysNone job = both (both (eqb (dataWires job) 4) (eqb (ancillas job) 0)) (oddTable job)

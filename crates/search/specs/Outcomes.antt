@@ -74,7 +74,16 @@ abbrev pub written : Outcome → List ℕ → List ℕ
 written (refusal code) answer = answer
 written (found bytes m) answer = bytes ++ drop (length bytes) answer
 
--- document 01's number of each case
+-- document 01's number of each outcome, and of each case of the answer
+abbrev pub outcomeCode : Outcome → ℕ
+outcomeCode (refusal code) = code
+outcomeCode (found bytes m) = 0
+
 abbrev pub searchedCode : Searched → ℕ
 searchedCode (Refused code) = code
 searchedCode (Found size m) = 0
+
+-- the length that an answer names: at most that of a record with twelve gates
+abbrev pub sizeIn : Searched → ℕ
+sizeIn (Refused code) = 0
+sizeIn (Found size m) = size

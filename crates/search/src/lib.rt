@@ -5,15 +5,15 @@ use slices::Wanted;
 use verify::Measures;
 ghost use mathlib.Core.Path.{_≡_};
 ghost use mathlib.Core.Bool.{true, false};
-ghost use mathlib.Core.List.{List};
+ghost use mathlib.Core.List.{List, [], _∷_, _++_};
 ghost use mathlib.Core.Option.{none};
 ghost use Prim.Native.Nat.{ℕ, _+_, _*_, _≤_, _<_};
-ghost use lib.ListN.{length, getD, take};
-ghost use Rattle.record.specs.Jobs.{jobCode};
+ghost use lib.ListN.{length, getD, take, drop};
+ghost use Rattle.record.specs.Jobs.{dataWires, ancillas, gateLimit, jobCode};
 ghost use Rattle.choice.specs.Choices.{improve, attempt};
 ghost use Rattle.best.specs.Inner.{view};
-ghost use Rattle.search.specs.Outcomes.{choiceOf, here, good, firstGood, recordOf, searchCode, searchOf, reported, written, searchedCode};
-ghost use Rattle.search.specs.Inner.{taskOf, nodeOf, advanced, At, lookedUnder};
+ghost use Rattle.search.specs.Outcomes.{choiceOf, here, good, firstGood, recordOf, searchCode, searchOf, reported, written, outcomeCode, searchedCode, sizeIn};
+ghost use Rattle.search.specs.Inner.{taskOf, nodeOf, advanced, At, lookedUnder, alwaysNone};
 
 // What the search answers: a refusal's number, or the record's length and measures.
 pub enum Searched {
@@ -196,4 +196,131 @@ fn dfs(
         i += 1;
     }
     b
+}
+
+// Nothing held yet.
+fn no_circuit() -> Best
+    ensures { λ r. ⌜ (view r ≡ none) × (r .len ≤ 12) ⌝ }
+{
+    Best {
+        found: false,
+        cost: 0,
+        depth: 0,
+        layout: 0,
+        len: 0,
+        path: [0u8; 12],
+    }
+}
+
+// The node of the empty list.
+fn root() -> Node
+    ensures { λ r. ⌜ ((job : List ℕ) → r ≡ nodeOf job []) ⌝ }
+{
+    Node {
+        columns: slices::start_columns(),
+        times: [0u16; 5],
+        cost: 0,
+    }
+}
+
+// Whether no list of any length realizes the table: four data wires, no ancilla, an odd permutation.
+fn always_none(job: &[u8]) -> bool
+    ensures { λ r. ⌜ r ≡ alwaysNone (now (job .entry)) ⌝ }
+{
+    let bare = logic::both(record::data_wires(job) == 4, record::ancillas(job) == 0);
+    logic::both(bare, parity::odd_table(job))
+}
+
+// The first good choice of a well-formed job.
+fn first_good(job: &[u8]) -> Best
+    requires { ⌜ jobCode (now job) ≡ 0 ⌝ }
+    ensures { λ r. ⌜ view r ≡ firstGood (now (job .entry)) ⌝ }
+    ensures { λ r. ⌜ r .len ≤ 12 ⌝ }
+{
+    let held = no_circuit();
+    if always_none(job) {
+        return held;
+    }
+    let path = [0u8; 12];
+    dfs(
+        job,
+        task_of(job),
+        root(),
+        path,
+        0,
+        record::gate_limit(job),
+        held,
+    )
+}
+
+// Byte 0 of the answer: the job's n and m.
+fn head(job: &[u8]) -> u8
+    ensures { λ r. ⌜ r ≡ 32 * dataWires (now (job .entry)) + 8 * ancillas (now (job .entry)) ⌝ }
+{
+    (32 * record::data_wires(job) + 8 * record::ancillas(job)) as u8
+}
+
+// A record with room for twelve gates.
+fn whole_record(head: u8, layout: u8, count: u8, path: [u8; 12]) -> [u8; 15]
+    ensures { λ r. ⌜ r ≡ head ∷ layout ∷ count ∷ path ⌝ }
+{
+    [
+        head,
+        layout,
+        count,
+        path[0],
+        path[1],
+        path[2],
+        path[3],
+        path[4],
+        path[5],
+        path[6],
+        path[7],
+        path[8],
+        path[9],
+        path[10],
+        path[11],
+    ]
+}
+
+// Writes a record from byte 0 and returns its length; later bytes stay.
+fn write_record(head: u8, layout: u8, path: [u8; 12], len: usize, answer: &mut [u8]) -> usize
+    requires { ⌜ (len ≤ 12) × (15 ≤ length (now answer)) ⌝ }
+    ensures { λ r. ⌜ r ≡ 3 + len ⌝ }
+    ensures { λ _. ⌜ now (answer .exit) ≡ (head ∷ layout ∷ len ∷ take len path) ++ drop (3 + len) (now (answer .entry)) ⌝ }
+{
+    let bytes = whole_record(head, layout, len as u8, path);
+    let size = 3 + len;
+    bytes::copy(&bytes[..size], answer)
+}
+
+fn search_code(job: &[u8], room: usize) -> u8
+    ensures { λ r. ⌜ r ≡ searchCode (now (job .entry)) room ⌝ }
+{
+    logic::and_then(record::job_code(job), logic::rule(15 <= room, 13, 0))
+}
+
+// Searches for the first circuit by cost, gates, depth, layout and gate bytes, and writes it to `answer`.
+pub fn search(job: &[u8], answer: &mut [u8]) -> Searched
+    ensures { λ r. ⌜ r ≡ reported (searchOf (now (job .entry)) (length (now (answer .entry)))) ⌝ }
+    ensures { λ r. ⌜ searchedCode r ≡ outcomeCode (searchOf (now (job .entry)) (length (now (answer .entry)))) ⌝ }
+    ensures { λ r. ⌜ sizeIn r ≤ 15 ⌝ }
+    ensures { λ _. ⌜ now (answer .exit) ≡ written (searchOf (now (job .entry)) (length (now (answer .entry)))) (now (answer .entry)) ⌝ }
+{
+    let code = search_code(job, answer.len());
+    if code != 0 {
+        return Searched::Refused(code);
+    }
+    let best = first_good(job);
+    if !best.found {
+        return Searched::Refused(14);
+    }
+    let path = best.path;
+    let size = write_record(head(job), best.layout, path, best.len, answer);
+    let m = Measures {
+        gates: best.len as u8,
+        cost: best.cost,
+        depth: best.depth,
+    };
+    Searched::Found(size, m)
 }

@@ -60,9 +60,10 @@ dfs-consider-requires t c κs = let s = c .before .before .before in let h = s .
 -- src/lib.rt:184:9
 dfs-returns-2 : (t : ℕ) → dfs-lts.Need-returns-2 (callees t) (dfs-at t) dfs.Post dfs-Inv-loop dfs-μ-loop
 dfs-returns-2 t c =
-    let s = c .before .before .before .before .before in
-    (walk-none (s .args .job .now) (take (s .args .n) (s .args .path)) (s .args .remaining) (view (s .args .best)) (view (c .before .consider .result)) (c .if2 .taken) (c .before .consider .ensures .0),
-      c .before .consider .ensures .1)
+    let s = c .before .before .before .before .before in (
+      walk-none (s .args .job .now) (take (s .args .n) (s .args .path)) (s .args .remaining) (view (s .args .best)) (view (c .before .consider .result)) (c .if2 .taken) (c .before .consider .ensures .0),
+      c .before .consider .ensures .1,
+    )
 
 -- src/lib.rt:187:9
 dfs-gate-count-requires : (t : ℕ) → dfs-lts.Need-gate-count-requires (callees t) (dfs-at t) dfs.Post dfs-Inv-loop dfs-μ-loop
@@ -126,13 +127,16 @@ dfs-dfs-requires t c κs =
     let i = p .loop .inv in
     let r = i .1 .0 in
     let l = dfs-long t s in
-    let e = wires-are (s .args .job .now) (s .args .task) (s .args .s) (s .args .path) (s .args .n) (s .pre .1 .0) in
-    (omega arith,
-    (at-more (s .args .job .now) (s .args .task) (s .args .s) (c .advance .result) (s .args .path) (s .args .n) (p .loop .i) (c .before .gate-at .result) (s .pre .1 .0) (omega arith)
-      (rw (← i .1 .1 .0) (c .before .before .loop-test .taken))
-      (c .before .gate-at .ensures ∙ ap (λ (w : ℕ). getD (gatesFor 2 w) (p .loop .i) 0) e)
-      (c .advance .ensures .0) (c .advance .ensures .1 .0) (c .advance .ensures .1 .1),
-    (omega arith, i .1 .1 .1 .0)))
+    let e = wires-are (s .args .job .now) (s .args .task) (s .args .s) (s .args .path) (s .args .n) (s .pre .1 .0) in (
+      omega arith,
+      (
+        at-more (s .args .job .now) (s .args .task) (s .args .s) (c .advance .result) (s .args .path) (s .args .n) (p .loop .i) (c .before .gate-at .result) (s .pre .1 .0) (omega arith)
+            (rw (← i .1 .1 .0) (c .before .before .loop-test .taken))
+            (c .before .gate-at .ensures ∙ ap (λ (w : ℕ). getD (gatesFor 2 w) (p .loop .i) 0) e)
+            (c .advance .ensures .0) (c .advance .ensures .1 .0) (c .advance .ensures .1 .1),
+        (omega arith, i .1 .1 .1 .0),
+      ),
+    )
 
 -- src/lib.rt:196:9
 dfs-add-i : (t : ℕ) → dfs-lts.Need-add-i (callees t) (dfs-at t) dfs.Post dfs-Inv-loop dfs-μ-loop
@@ -152,13 +156,23 @@ dfs-loop-again t c =
     let r = i .1 .0 in
     let b = c .before .before .before .loop-test .taken in
     let l = dfs-long t s in
-    let e = wires-are (s .args .job .now) (s .args .task) (s .args .s) (s .args .path) (s .args .n) (s .pre .1 .0) in
-    (omega arith, (r, (i .1 .1 .0, (c .dfs .ensures .1,
-    walk-turn (s .args .job .now) (s .args .path) (s .args .n) (s .args .remaining - 1) (p .loop .i) (c .before .before .gate-at .result)
-    (view (p .before .before .before .consider .result)) (view (p .loop .b)) (view (c .dfs .result)) (omega arith)
-    (rw (← i .1 .1 .0) b)
-    (c .before .before .gate-at .ensures ∙ ap (λ (w : ℕ). getD (gatesFor 2 w) (p .loop .i) 0) e)
-    (i .1 .1 .1 .1) (c .dfs .ensures .0)))))
+    let e = wires-are (s .args .job .now) (s .args .task) (s .args .s) (s .args .path) (s .args .n) (s .pre .1 .0) in (
+      omega arith,
+      (
+        r,
+        (
+          i .1 .1 .0,
+          (
+            c .dfs .ensures .1,
+            walk-turn (s .args .job .now) (s .args .path) (s .args .n) (s .args .remaining - 1) (p .loop .i) (c .before .before .gate-at .result)
+                (view (p .before .before .before .consider .result)) (view (p .loop .b)) (view (c .dfs .result)) (omega arith)
+                (rw (← i .1 .1 .0) b)
+                (c .before .before .gate-at .ensures ∙ ap (λ (w : ℕ). getD (gatesFor 2 w) (p .loop .i) 0) e)
+                (i .1 .1 .1 .1) (c .dfs .ensures .0),
+          ),
+        ),
+      ),
+    )
 
 -- src/lib.rt:165:1
 dfs-returns-3 : (t : ℕ) → dfs-lts.Need-returns-3 (callees t) (dfs-at t) dfs.Post dfs-Inv-loop dfs-μ-loop
@@ -168,10 +182,12 @@ dfs-returns-3 t c =
     let i = p .loop .inv in
     let r = i .1 .0 in
     let b = c .loop-test .left in
-    let q : p .loop .i ≡ length (gatesOf (s .args .job .now)) = let x = i .0 in let y = i .1 .1 .0 in omega arith in
-    (walk-end (s .args .job .now) (take (s .args .n) (s .args .path)) (s .args .remaining) (view (s .args .best)) (view (p .before .before .before .consider .result)) (view (p .loop .b)) (omega arith)
-    (p .before .before .before .consider .ensures .0)
-    (rw q at (i .1 .1 .1 .1)), i .1 .1 .1 .0)
+    let q : p .loop .i ≡ length (gatesOf (s .args .job .now)) = let x = i .0 in let y = i .1 .1 .0 in omega arith in (
+      walk-end (s .args .job .now) (take (s .args .n) (s .args .path)) (s .args .remaining) (view (s .args .best)) (view (p .before .before .before .consider .result)) (view (p .loop .b)) (omega arith)
+          (p .before .before .before .consider .ensures .0)
+          (rw q at (i .1 .1 .1 .1)),
+      i .1 .1 .1 .0,
+    )
 
 pub +dfs-spec : {M : Type 1} → statement M
 +dfs-spec = close μ-dfs λ t. dfs-lts.spec (callees t)

@@ -71,11 +71,18 @@ loop-again c =
     let l = take (s .args .n) (s .args .path) in
     let h = c .before .before .loop-test .taken in
     let i = p .loop .inv in
-    let k = p .before .layout-count .ensures in
-    (omega arith, (k, (c .try-layout .ensures .1,
-      layouts-turn (good job) (choiceOf job l) (layoutsFor (s .args .task .outputs) (s .args .task .free)) (p .loop .i)
-      (view (s .args .best)) (view (p .loop .b)) (view (c .try-layout .result)) (omega arith) (i .1 .1 .1)
-      (c .try-layout .ensures .0 ∙ ap (λ (q : ℕ). attempt (good job) (view (p .loop .b)) (choiceOf job l q)) (c .before .layout-at .ensures)))))
+    let k = p .before .layout-count .ensures in (
+      omega arith,
+      (
+        k,
+        (
+          c .try-layout .ensures .1,
+          layouts-turn (good job) (choiceOf job l) (layoutsFor (s .args .task .outputs) (s .args .task .free)) (p .loop .i)
+              (view (s .args .best)) (view (p .loop .b)) (view (c .try-layout .result)) (omega arith) (i .1 .1 .1)
+              (c .try-layout .ensures .0 ∙ ap (λ (q : ℕ). attempt (good job) (view (p .loop .b)) (choiceOf job l q)) (c .before .layout-at .ensures)),
+        ),
+      ),
+    )
 
 -- src/lib.rt:109:1
 returns : tie.Need-returns Inv-loop μ-loop
@@ -84,11 +91,12 @@ returns c =
     let s = p .before .before .before in
     let i = p .loop .inv in
     let h = c .loop-test .left in
-    let ls = layoutsFor (s .args .task .outputs) (s .args .task .free) in
-    (i .1 .1 .1
-    ∙ ap (λ (l : List ℕ). improve (good (s .args .job .now)) (view (s .args .best)) (map (choiceOf (s .args .job .now) (take (s .args .n) (s .args .path))) l)) (take-all (p .loop .i) ls (omega (arith, i .1 .0)))
-    ∙ ap (λ (l : List Choice). improve (good (s .args .job .now)) (view (s .args .best)) l) (here-is (s .args .job .now) (s .args .task) (s .args .s) (s .args .path) (s .args .n) (s .pre .0)),
-    i .1 .1 .0)
+    let ls = layoutsFor (s .args .task .outputs) (s .args .task .free) in (
+      i .1 .1 .1
+          ∙ ap (λ (l : List ℕ). improve (good (s .args .job .now)) (view (s .args .best)) (map (choiceOf (s .args .job .now) (take (s .args .n) (s .args .path))) l)) (take-all (p .loop .i) ls (omega (arith, i .1 .0)))
+          ∙ ap (λ (l : List Choice). improve (good (s .args .job .now)) (view (s .args .best)) l) (here-is (s .args .job .now) (s .args .task) (s .args .s) (s .args .path) (s .args .n) (s .pre .0)),
+      i .1 .1 .0,
+    )
 
 pub consider-spec : {M : Type 1} → statement M
 consider-spec =

@@ -76,9 +76,11 @@ returns-2 c =
     let job = s .args .job .now in
     let l : length (s .args .path) ≡ 12 = search needs in
     let hn = s .pre .1 .0 in
-    let m = mine-is job (s .args .task) (s .args .s) (s .args .path) (s .args .n) (s .pre .0) (s .args .p) _ (omega arith) refl (c .before .before .before .before .before .before .before .before .latest .ensures) refl refl refl in
-    (c .offer .ensures .0 ∙ ap (keep (view (s .args .best))) m
-    ∙ sym (attempt-good (good job) (view (s .args .best)) (choiceOf job (take (s .args .n) (s .args .path)) (s .args .p)) (sym (tested (c .before .before)) ∙ not-false _ (c .before .if1 .left))), c .offer .ensures .1)
+    let m = mine-is job (s .args .task) (s .args .s) (s .args .path) (s .args .n) (s .pre .0) (s .args .p) _ (omega arith) refl (c .before .before .before .before .before .before .before .before .latest .ensures) refl refl refl in (
+      c .offer .ensures .0 ∙ ap (keep (view (s .args .best))) m
+          ∙ sym (attempt-good (good job) (view (s .args .best)) (choiceOf job (take (s .args .n) (s .args .path)) (s .args .p)) (sym (tested (c .before .before)) ∙ not-false _ (c .before .if1 .left))),
+      c .offer .ensures .1,
+    )
 
 pub try-layout-spec : {M : Type 1} → statement M
 try-layout-spec =

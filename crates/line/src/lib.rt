@@ -1,0 +1,20 @@
+// From a job's bytes to the bytes of the line that `main` prints.
+use search::Searched;
+ghost use mathlib.Core.Path.{_≡_};
+ghost use Prim.Native.Nat.{_≤_};
+ghost use lib.ListN.{length};
+ghost use Rattle.text.specs.Text.{placed};
+ghost use Rattle.line.specs.Lines.{lineOf};
+
+// Searches for a job's circuit and writes the line to the start of `out`; returns the line's length.
+pub fn line(job: &[u8], out: &mut [u8]) -> usize
+    requires { ⌜ 64 ≤ length (now out) ⌝ }
+    ensures { λ r. ⌜ r ≡ length (lineOf (now (job .entry))) ⌝ }
+    ensures { λ _. ⌜ now (out .exit) ≡ placed (lineOf (now (job .entry))) (now (out .entry)) ⌝ }
+{
+    let mut answer = [0u8; 15];
+    match search::search(job, &mut answer) {
+        Searched::Refused(code) => text::refused_line(code, out),
+        Searched::Found(size, m) => text::found_line(m, &answer[..size], out),
+    }
+}

@@ -10,6 +10,7 @@ ghost use Rattle.line.specs.Lines.{lineOf};
 pub fn line(job: &[u8], out: &mut [u8]) -> usize
     requires { ⌜ 64 ≤ length (now out) ⌝ }
     ensures { λ r. ⌜ r ≡ length (lineOf (now (job .entry))) ⌝ }
+    ensures { λ r. ⌜ r ≤ 64 ⌝ }
     ensures { λ _. ⌜ now (out .exit) ≡ placed (lineOf (now (job .entry))) (now (out .entry)) ⌝ }
 {
     let mut answer = [0u8; 15];

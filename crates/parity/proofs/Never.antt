@@ -1,6 +1,6 @@
 -- The theorem on odd tables: with four data wires, no ancilla and a fully given odd permutation, no list of lawful gates of any length
 -- realizes the table, whatever the layout.
-use mathlib.Core.Path.{_≡_, refl, sym, ap, _∙_}
+use mathlib.Core.Path.{_≡_, refl, ap, _∙_}
 use mathlib.Core.Bool.{Bool, true, false}
 use mathlib.Core.List.{List}
 use Prim.Native.Nat.{ℕ, _+_, _-_, _^_, _%_, _<_}
@@ -9,20 +9,19 @@ use native.Mathlib.Omega.{arith}
 use borrow.Author.Tests.{eqb-true}
 use lib.Dec.{eqb}
 use lib.ListN.{length, getD, length-drop}
-use Rattle.logic.specs.Rules.{allBelow, pick}
+use Rattle.logic.specs.Rules.{pick}
 use Rattle.logic.specs.Lists.{allOf}
 use Rattle.logic.specs.Bit.{bitOf}
 use Rattle.logic.proofs.Below.{below}
 use Rattle.gate.specs.Gates.{lawful}
 use Rattle.circuit.specs.Run.{forwards}
-use Rattle.record.specs.Jobs.{dataWires, rows, careOf, valueOf, jobCode}
-use Rattle.record.specs.Layouts.{wireOf, layoutOk}
+use Rattle.record.specs.Jobs.{dataWires, rows, careOf, jobCode}
+use Rattle.record.specs.Layouts.{layoutOk}
 use Rattle.record.proofs.Kept.{sound-job}
-use Rattle.verify.specs.Realize.{rowAgrees, realizes}
+use Rattle.verify.specs.Realize.{realizes}
 use Rattle.verify.proofs.Rows.{agrees-at, bit-at}
-use Rattle.parity.specs.declared.TableParity.{TableParity}
-use Rattle.parity.specs.declared.TableParity.the-variants.{Refused, Even, Odd, Neither}
-use Rattle.parity.specs.Parity.{permutes, inversions, values, oddTable, oddOrEven, tableParity, codeOf}
+use Rattle.parity.specs.declared.TableParity.the-variants.{Even, Odd, Neither}
+use Rattle.parity.specs.Parity.{permutes, inversions, values, oddTable, tableParity, codeOf}
 use Rattle.parity.proofs.Tables.{odd-full, never}
 
 abbrev wantedBit : ℕ → Bool

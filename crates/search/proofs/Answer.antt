@@ -1,11 +1,9 @@
 -- What the public call owes: each way out of it is the outcome of its definition.
 use mathlib.Core.Path.{_≡_, refl, sym, ap, _∙_}
-use mathlib.Core.Bool.{Bool, true, false}
+use mathlib.Core.Bool.{true, false}
 use mathlib.Core.List.{List, [], _∷_, _++_, map}
-use mathlib.Core.Option.{Option, none, some}
+use mathlib.Core.Option.{none}
 use Prim.Native.Nat.{ℕ, zero, suc, _+_, _*_, _≤_, _<_}
-use native.Mathlib.Nat.{add-zero}
-use native.Mathlib.Numerals.{add-three}
 use native.Mathlib.Omega.{arith}
 use borrow.Author.Tests.{eqb-true, ne-eqb, leb-true}
 use lib.Dec.{leb, eqb, lit<}
@@ -15,19 +13,15 @@ use Rattle.logic.specs.Rules.{both, rule}
 use Rattle.logic.specs.Lists.{allOf, along, total, count}
 use Rattle.logic.proofs.Chain.{both-left, both-right, and-then-zero, rule-kept}
 use Rattle.record.specs.Jobs.{dataWires, ancillas, gateLimit, jobCode}
-use Rattle.record.proofs.Kept.{sound-job}
 use Rattle.parity.specs.Parity.{oddTable}
-use Rattle.choice.specs.Choices.{Choice}
 use Rattle.best.specs.declared.Best.{Best}
 use Rattle.best.specs.Inner.{choice, view}
-use Rattle.verify.specs.declared.Measures.{Measures}
+use Rattle.circuit.proofs.Times.{idle-until}
 use Rattle.search.specs.declared.Task.{Task}
 use Rattle.search.specs.declared.Node.{Node}
-use Rattle.search.specs.Outcomes.{firstGood, Outcome, refusal, found, recordOf, outcomeOf, searchCode, searchOf}
+use Rattle.search.specs.Outcomes.{firstGood, refusal, found, recordOf, outcomeOf, searchCode, searchOf}
 use Rattle.search.specs.Inner.{taskOf, nodeOf, At, lookedUnder, alwaysNone}
 use Rattle.search.proofs.Facts.{odd-first}
-use Rattle.circuit.specs.Measure.{idle}
-use Rattle.circuit.proofs.Times.{idle-until}
 
 -- a list by its elements
 listed-from : (l : List ℕ) (n i : ℕ) → i + n ≡ length l → drop i l ≡ map (λ j. getD l j 0) (count i n)

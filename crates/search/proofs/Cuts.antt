@@ -2,28 +2,27 @@
 use mathlib.Core.Path.{_≡_, refl, sym, ap, _∙_}
 use mathlib.Core.Bool.{Bool, true, false}
 use mathlib.Core.Logic.{⊎-elim}
-use mathlib.Core.List.{List, [], _∷_, _++_, List·Memᴰ, Memᴰ·of-map}
+use mathlib.Core.List.{List, _++_, List·Memᴰ, Memᴰ·of-map}
 use mathlib.Core.Option.{Option, some}
 use Prim.Native.Nat.{ℕ, _+_, _≤_, _<_}
 use native.Mathlib.Nat.{eq-or-lt-of-le}
 use native.Mathlib.Omega.{arith}
 use borrow.Author.Tests.{lt-leb}
 use lib.Dec.{leb}
-use lib.ListN.{length, take, length-append}
+use lib.ListN.{length, take}
 use lib.Seq.{length-take-le}
-use Rattle.logic.specs.Rules.{both, pick}
+use Rattle.logic.specs.Rules.{both}
 use Rattle.logic.specs.Lists.{allOf}
-use Rattle.logic.proofs.Chain.{both-left}
 use Rattle.gate.specs.Gates.{lawful}
 use Rattle.circuit.specs.Measure.{cost, depth, greatest}
 use Rattle.circuit.proofs.Prefix.{gates-front, cost-front, depth-front}
 use Rattle.record.specs.Jobs.{dataWires, wires, freeLayout, costLimit, depthLimit, priceOf, durationOf, jobCode}
 use Rattle.record.specs.Layouts.{layoutsFor}
 use Rattle.verify.specs.Realize.{realizes}
-use Rattle.slices.specs.Wanted.{wantedOf, startColumns, lost}
+use Rattle.slices.specs.Wanted.{wantedOf, lost}
 use Rattle.slices.proofs.Fewest.{lost-few}
 use Rattle.slices.proofs.Realized.{wires-most}
-use Rattle.choice.specs.Choices.{Choice, before, attempt, improve, under}
+use Rattle.choice.specs.Choices.{Choice, before, attempt}
 use Rattle.choice.proofs.Order.{lex-gt, lex-eq}
 use Rattle.choice.proofs.First.{attempt-not, attempt-after}
 use Rattle.choice.proofs.Enumeration.{skip}

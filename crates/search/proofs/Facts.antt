@@ -2,10 +2,9 @@
 use mathlib.Core.Path.{_≡_, refl, sym, ap, _∙_}
 use mathlib.Core.Bool.{Bool, true, false, true≢false}
 use mathlib.Core.Logic.{_⊎_, inl, inr, ⊎-elim, _↔_}
-use mathlib.Core.List.{List, [], _∷_, _++_, map, List·Memᴰ, Memᴰ·map, Memᴰ·of-map}
+use mathlib.Core.List.{List, [], _∷_, List·Memᴰ, Memᴰ·map, Memᴰ·of-map}
 use mathlib.Core.Option.{Option, none, some}
 use Prim.Native.Nat.{ℕ, _+_, _*_, _≤_, _<_}
-use native.Mathlib.Nat.{le-refl}
 use native.Mathlib.Omega.{arith}
 use borrow.Author.Tests.{leb-true, le-leb, eqb-true}
 use lib.Dec.{leb, eqb}
@@ -13,7 +12,7 @@ use lib.ListN.{length}
 use Rattle.logic.specs.Rules.{both, pick}
 use Rattle.logic.specs.Lists.{allOf}
 use Rattle.logic.proofs.Chain.{both-left, both-right, both-true}
-use Rattle.gate.specs.Gates.{lawful, gatesFor}
+use Rattle.gate.specs.Gates.{lawful}
 use Rattle.circuit.specs.Measure.{cost, depth}
 use Rattle.record.specs.Jobs.{dataWires, ancillas, wires, freeLayout, gateLimit, costLimit, depthLimit, priceOf, durationOf, jobCode}
 use Rattle.record.specs.Layouts.{layoutOk, plain, layoutsFor}
@@ -23,12 +22,12 @@ use Rattle.verify.specs.Realize.{realizes, allowed}
 use Rattle.verify.specs.Calls.{measuresOf}
 use Rattle.parity.specs.Parity.{oddTable}
 use Rattle.parity.proofs.Never.{none-realizes}
-use Rattle.choice.specs.Choices.{Choice, before, improve, under}
+use Rattle.choice.specs.Choices.{Choice, before}
+use Rattle.search.specs.Outcomes.{choiceOf, here, gatesOf, choices, good, firstGood, refusal, found, recordOf, measuresIn, outcomeOf, searchCode, searchOf}
+use Rattle.search.proofs.Members.{among-lawful, lawful-among, layout-is, layout-has, layout-lt}
 use Rattle.choice.proofs.Order as Order
 use Rattle.choice.proofs.First as First
 use Rattle.choice.proofs.Enumeration as Enumeration
-use Rattle.search.specs.Outcomes.{choiceOf, here, gatesOf, choices, good, firstGood, Outcome, refusal, found, recordOf, measuresIn, outcomeOf, searchCode, searchOf}
-use Rattle.search.proofs.Members.{among-lawful, lawful-among, layout-is, layout-has, layout-lt}
 
 plain-ok : layoutOk 4 27 ≡ true
 unfolding layoutOk

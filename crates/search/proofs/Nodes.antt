@@ -1,24 +1,23 @@
 -- The state at a node is that of the list so far: one gate further, and what its columns, ready times and cost say of a choice.
-use mathlib.Core.Path.{_≡_, refl, sym, ap, _∙_}
+use mathlib.Core.Path.{_≡_, sym, ap, _∙_}
 use mathlib.Core.Bool.{Bool, true}
 use mathlib.Core.Logic.{_⊎_, ⊎-elim}
 use mathlib.Core.List.{List, [], _∷_, _++_, map, map-append}
 use mathlib.Core.Option.{Option}
-use Prim.Native.Nat.{ℕ, _+_, _*_, _≤_, _<_}
+use Prim.Native.Nat.{ℕ, _+_, _≤_, _<_}
 use native.Mathlib.Nat.{add-zero}
 use native.Mathlib.Omega.{arith}
-use lib.Dec.{leb}
 use native.Mathlib.Numerals.{add-one}
+use lib.Dec.{leb}
 use lib.ListN.{length, take, getD}
 use lib.Seq.{length-take-le, take-suc}
-use Rattle.logic.specs.Rules.{both, pick}
+use Rattle.logic.specs.Rules.{both}
 use Rattle.logic.specs.Lists.{allOf, total, along}
 use Rattle.logic.proofs.Fold.{along-append, total-append}
 use Rattle.gate.specs.Gates.{lawful, gateOf}
 use Rattle.gate.specs.Inner.{columnStep}
 use Rattle.circuit.specs.Measure.{cost, holdByte, idle, greatest}
 use Rattle.record.specs.Jobs.{wires, costLimit, depthLimit, priceOf, durationOf, jobCode}
-use Rattle.verify.specs.Realize.{realizes}
 use Rattle.slices.specs.Wanted.{startColumns, met}
 use Rattle.slices.proofs.Realized.{met-realizes}
 use Rattle.record.specs.Layouts.{layoutsFor}

@@ -1,6 +1,6 @@
 -- The walk: one gate further down a path, and what the recursion owes at its start, after each gate, and at its end.
-use mathlib.Core.Path.{_≡_, refl, sym, ap, _∙_}
-use mathlib.Core.Bool.{Bool, true}
+use mathlib.Core.Path.{_≡_, refl, _∙_}
+use mathlib.Core.Bool.{true}
 use mathlib.Core.List.{List, [], _∷_, _++_, List·Memᴰ}
 use mathlib.Core.Option.{Option}
 use Prim.Native.Nat.{ℕ, zero, suc, _+_, _-_, _*_, _≤_, _<_}
@@ -12,7 +12,7 @@ use lib.Seq.{take-suc-set}
 use Rattle.logic.specs.Lists.{allOf}
 use Rattle.logic.proofs.Chain.{both-true}
 use Rattle.logic.proofs.Fold.{all-append}
-use Rattle.gate.specs.Gates.{lawful, gatesFor}
+use Rattle.gate.specs.Gates.{lawful}
 use Rattle.record.specs.Jobs.{wires}
 use Rattle.slices.proofs.Realized.{wires-most}
 use Rattle.choice.specs.Choices.{Choice, improve, below}
@@ -20,7 +20,7 @@ use Rattle.choice.proofs.Enumeration.{under-zero, turn, node}
 use Rattle.search.specs.declared.Task.{Task}
 use Rattle.search.specs.declared.Node.{Node}
 use Rattle.search.specs.Outcomes.{here, gatesOf, good}
-use Rattle.search.specs.Inner.{taskOf, nodeOf, advanced, At, lookedUnder}
+use Rattle.search.specs.Inner.{advanced, At, lookedUnder}
 use Rattle.search.proofs.Members.{gate-is}
 use Rattle.search.proofs.Nodes.{node-snoc}
 

@@ -2,6 +2,7 @@
 use libc::STDOUT_FILENO;
 use parity::TableParity;
 use record::Checked;
+use search::Searched;
 use verify::Measured;
 use verify::Measures;
 use verify::Ran;
@@ -17,6 +18,7 @@ fn main() {
     run_file(b"measuring");
     run_file(b"verifying");
     run_file(b"parity");
+    run_file(b"search");
 }
 
 fn say(text: &[u8]) {
@@ -79,6 +81,7 @@ fn dispatch(letter: u8, first: &[u8], second: &[u8]) {
         b'm' => say_measured(verify::measure(first, second)),
         b'v' => say_measured(verify::verify(first, second)),
         b'p' => say_parity(parity::parity(first)),
+        b's' => say_search(first, logic::at(second, 0)),
         _ => say(b"unknown"),
     }
 }
@@ -99,6 +102,10 @@ fn say_ran(answer: Ran) {
 
 fn say_value(value: u8) {
     say(b"value ");
+    say_byte(value);
+}
+
+fn say_byte(value: u8) {
     say_hex(value / 16);
     say_hex(value % 16);
 }
@@ -123,6 +130,10 @@ fn say_measured(answer: Measured) {
 
 fn say_within(m: Measures) {
     say(b"within ");
+    say_measures(m);
+}
+
+fn say_measures(m: Measures) {
     io::print_decimal(STDOUT_FILENO, m.gates as u64);
     say(b" ");
     io::print_decimal(STDOUT_FILENO, m.cost as u64);
@@ -136,6 +147,61 @@ fn say_parity(answer: TableParity) {
         TableParity::Even => say(b"even"),
         TableParity::Odd => say(b"odd"),
         TableParity::Neither => say(b"neither"),
+    }
+}
+
+// Searches with an answer buffer of `room` bytes, each different, and writes the answer and the whole buffer.
+fn say_search(job: &[u8], room: u8) {
+    let mut buffer = numbered();
+    search_into(job, &mut buffer, room as usize);
+}
+
+fn search_into(job: &[u8], buffer: &mut [u8], n: usize) {
+    if n <= buffer.len() {
+        search_whole(job, &mut buffer[..n]);
+    }
+}
+
+fn search_whole(job: &[u8], answer: &mut [u8]) {
+    say_searched(search::search(job, answer));
+    say(b" ");
+    say_bytes(answer);
+}
+
+// A buffer whose byte i is 0xA0 + i, modulo 256.
+fn numbered() -> [u8; 256] {
+    let mut buffer = [0u8; 256];
+    let mut i: usize = 0;
+    while i < 256 {
+        buffer[i] = ((i + 160) % 256) as u8;
+        i += 1;
+    }
+    buffer
+}
+
+fn say_searched(answer: Searched) {
+    match answer {
+        Searched::Refused(code) => say_refused(code),
+        Searched::Found(size, m) => say_found(size, m),
+    }
+}
+
+fn say_found(size: usize, m: Measures) {
+    say(b"found ");
+    io::print_decimal(STDOUT_FILENO, size as u64);
+    say(b" ");
+    say_measures(m);
+}
+
+// Each byte in hexadecimal; `-` where there is none.
+fn say_bytes(bytes: &[u8]) {
+    if bytes.len() == 0 {
+        say(b"-");
+    }
+    let mut i = 0;
+    while i < bytes.len() {
+        say_byte(bytes[i]);
+        i += 1;
     }
 }
 

@@ -1,25 +1,21 @@
 -- The table test by what is left of it: one row, then the rest; nothing at the end.
+use mathlib.Core.Path.{subst, sym, _∙_, _≡_}
+use mathlib.Core.List.{[], _∷_, List}
+use mathlib.Core.Bool.{Bool, true}
+use Prim.Native.Nat.{zero, suc, ℕ, _+_, _≤_, _<_}
 use native.Mathlib.Nat.{not-suc-le-zero, le-of-suc-le-suc, add-zero, add-suc, suc-add}
+use native.Mathlib.Numerals.{add-one}
 use borrow.Author.Tests.{eqb-true, eq-eqb}
 use lib.Dec.{eqb}
+use lib.ListN.{length, getD, drop, drop-of-length-le}
+use lib.Seq.{drop-cons}
 use Rattle.logic.specs.Bit.{bitOf}
 use Rattle.logic.proofs.Chain.{both-left, both-right, implied}
 use Rattle.logic.proofs.Below.{below}
 use Rattle.record.specs.Jobs.{careOf, valueOf}
 use Rattle.record.specs.Layouts.{wireOf}
-use mathlib.Core.Path.{subst, sym, _∙_}
-use mathlib.Core.List.{[], _∷_}
-use Prim.Native.Nat.{zero, suc}
-use Rattle.verify.specs.Realize.{bitAgrees}
-use mathlib.Core.Path.{_≡_}
-use mathlib.Core.Bool.{Bool, true}
-use mathlib.Core.List.{List}
-use Prim.Native.Nat.{ℕ, _+_, _≤_, _<_}
-use native.Mathlib.Numerals.{add-one}
-use lib.ListN.{length, getD, drop, drop-of-length-le}
-use lib.Seq.{drop-cons}
 use Rattle.logic.specs.Rules.{both}
-use Rattle.verify.specs.Realize.{rowAgrees, agreesFrom}
+use Rattle.verify.specs.Realize.{bitAgrees, rowAgrees, agreesFrom}
 
 module _ (p : ℕ) (ends : ℕ → ℕ) (table : List ℕ) (x : ℕ) where
   pub rows-turn : (t : Bool) → x < length table → rowAgrees p (getD table x 0) (ends x) ≡ t

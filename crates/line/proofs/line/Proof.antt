@@ -1,73 +1,68 @@
+use mathlib.Core.Path.{sym, _∙_}
+use Prim.Native.Nat.{_≤_}
+use native.Mathlib.Omega.{arith}
 use borrow.Author.Needs.{needs}
+use lib.ListN.{length, take}
+use lib.Seq.{length-take-le}
+use Rattle.text.proofs.Pieces.{refused-short, found-short}
+use Rattle.search.specs.Outcomes.{searchOf}
+use Rattle.line.specs.Lines.{lineOf}
+use Rattle.line.proofs.Ways.{when-refused, when-found}
 use Rattle.line.proofs.line.Statement.{statement}
 use Rattle.line.proofs.line.Tie as tie
-use Rattle.line.proofs.line.Reads as reads
-use Rattle.line.proofs.line.Lts as lts
-use Rattle.search.proofs.search.Reads as search-reads
-use Rattle.text.proofs.found_line.Reads as found-line-reads
-use Rattle.text.proofs.refused_line.Reads as refused-line-reads
 
--- src/lib.rt:16:31
-slice-aggregate-search : tie.Need-slice-aggregate-search
-slice-aggregate-search c = search needs
+-- the record found fits the fifteen bytes
+small : (c : tie.After-size) → c .size .given .0 .0 ≤ 15
+small c = rw (c .size .given .1) at (c .before .before .before .search .ensures .1 .1 .0)
 
--- src/lib.rt:16:11
-search-requires : tie.Need-search-requires
-search-requires c κs = search needs
+within : (c : tie.After-size) → c .size .given .0 .0 ≤ length (c .before .before .before .search .last .1 .0)
+within c = let k = c .before .before .before .search .kept .1 .0 in let s = small c in omega arith
 
--- src/lib.rt:17:27
-enum-known-code : tie.Need-enum-known-code
-enum-known-code c = search needs
-
--- src/lib.rt:17:36
-refused-line-requires : tie.Need-refused-line-requires
-refused-line-requires c κs = search needs
-
--- src/lib.rt:18:25
-enum-known-size : tie.Need-enum-known-size
-enum-known-size c = search needs
-
--- src/lib.rt:18:57
 array-share-prefix-answer : tie.Need-array-share-prefix-answer
-array-share-prefix-answer c = ?
+array-share-prefix-answer c = within (c .before)
 
--- src/lib.rt:18:57
 slice-aggregate-found-line : tie.Need-slice-aggregate-found-line
-slice-aggregate-found-line c = ?
+slice-aggregate-found-line c = sym (length-take-le (c .before .before .size .given .0 .0) (c .before .before .before .before .before .search .last .1 .0) (within (c .before .before)))
 
--- src/lib.rt:18:37
 found-line-requires : tie.Need-found-line-requires
-found-line-requires c κs = ?
+found-line-requires c κs =
+    let z = c .before .before .before in
+    let s = z .before .before .before .before .before .before .before in
+    (rw (length-take-le (z .size .given .0 .0) (z .before .before .before .search .last .1 .0) (within z)) (small z), s .pre)
 
--- src/lib.rt:10:1
-same-length : tie.Need-same-length
-same-length c = search needs
-
--- src/lib.rt:10:1
 returns : tie.Need-returns
-returns c = ?
+unfolding lineOf
+returns c =
+    let r = c .before .before in
+    let z = r .before .before .before in
+    let q = z .before .before .before in
+    let s = q .before .before .before .before in
+    let e = when-refused (searchOf (s .args .job .now) 15) (z .code .given .0 .0) (sym (q .search .ensures .0) ∙ z .code .given .1) in
+    (rw e (r .refused-line .ensures .0), (rw (r .refused-line .ensures .0) (refused-short (z .code .given .0 .0)), rw e (r .refused-line .ensures .1)))
 
--- src/lib.rt:10:1
-same-length-2 : tie.Need-same-length-2
-same-length-2 c = search needs
-
--- src/lib.rt:10:1
 returns-2 : tie.Need-returns-2
-returns-2 c = ?
+unfolding lineOf
+returns-2 c =
+    let r = c .before .before in
+    let z = r .before .before .before .before in
+    let q = z .before .before .before in
+    let s = q .before .before .before .before in
+    let e = when-found (searchOf (s .args .job .now) 15) (z .size .given .0 .0) _ _ (q .search .last .1 .0) (sym (q .search .ensures .0) ∙ z .size .given .1) (q .search .ensures .1 .1 .1) in
+    (rw e (r .found-line .ensures .0), (rw (r .found-line .ensures .0) (found-short _ (take (z .size .given .0 .0) (q .search .last .1 .0)) (rw (length-take-le (z .size .given .0 .0) (q .search .last .1 .0) (within z)) (small z))), rw e (r .found-line .ensures .1)))
 
 pub line-spec : {M : Type 1} → statement M
 line-spec =
     tie.close
     (tie.spec
-    slice-aggregate-search
-    search-requires
-    enum-known-code
-    refused-line-requires
-    enum-known-size
+    (λ c. search needs)
+    (λ c κs. search needs)
+    (λ c. search needs)
+    (λ c κs. search needs)
+    (λ c. search needs)
     array-share-prefix-answer
     slice-aggregate-found-line
     found-line-requires
-    same-length
+    (λ c. search needs)
     returns
-    same-length-2
+    (λ c. search needs)
     returns-2)

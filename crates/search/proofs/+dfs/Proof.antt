@@ -1,7 +1,9 @@
 use mathlib.Core.Path.{_≡_, refl, sym, ap, _∙_}
-use Prim.Native.Nat.{ℕ, _+_, _-_, _*_, _≤_, _<_}
+use Prim.Native.Nat.{ℕ, _+_, _-_, _≤_, _<_}
 use native.Mathlib.Omega.{arith}
 use borrow.Author.Needs.{needs}
+use borrow.Fn.Kinds.{In}
+use borrow.Fn.PlainCycle.{Measures, is, falls, and}
 use lib.ListN.{length, take, getD}
 use Rattle.gate.specs.Gates.{gatesFor}
 use Rattle.choice.specs.Choices.{improve, below, flatMap}
@@ -9,9 +11,8 @@ use Rattle.best.specs.Inner.{view}
 use Rattle.search.specs.Outcomes.{here, gatesOf, good}
 use Rattle.search.proofs.Nodes.{wires-are, wires-within}
 use Rattle.search.proofs.Walk.{at-more, walk-none, walk-end, walk-turn}
-use Prim.Native.Nat.{ℕ, _<_}
-use borrow.Fn.Kinds.{In}
-use borrow.Fn.PlainCycle.{Measures, is, falls, and}
+use Rattle.search.proofs.+dfs.{statement}
+use Rattle.search.proofs.+dfs.Tie.{close}
 use Rattle.search.proofs.dfs.Reads as dfs
 use Rattle.search.proofs.dfs.Kinds as dfs-kinds
 use Rattle.search.proofs.+dfs.Lts-dfs as dfs-lts
@@ -20,8 +21,6 @@ use Rattle.gate.proofs.gate_count.Reads as gate-count-reads
 use Rattle.search.proofs.advance.Reads as advance-reads
 use Rattle.search.proofs.consider.Reads as consider-reads
 use Rattle.search.proofs.hopeless.Reads as hopeless-reads
-use Rattle.search.proofs.+dfs.{statement}
-use Rattle.search.proofs.+dfs.Tie.{close}
 
 abbrev μ-dfs : Measures 1 dfs-kinds.ps ℕ
 μ-dfs κs a = a .1 .1 .1 .1 .1 .0
@@ -43,21 +42,17 @@ dfs-μ-loop job task s path n remaining b₀ wires count i₀ b i = count - i
 abbrev callees : ℕ → dfs-lts.Claims
 callees t = (hopeless-reads.Asked, hopeless-reads.Learnt, consider-reads.Asked, consider-reads.Learnt, gate-count-reads.Asked, gate-count-reads.Learnt, gate-at-reads.Asked, gate-at-reads.Learnt, advance-reads.Asked, advance-reads.Learnt, dfs-below t, dfs.Post)
 
--- src/lib.rt:179:8
 dfs-hopeless-requires : (t : ℕ) → dfs-lts.Need-hopeless-requires (callees t) (dfs-at t) dfs.Post dfs-Inv-loop dfs-μ-loop
 dfs-hopeless-requires t c κs = let s = c .before in let h = s .pre .1 .1 .0 in (s .pre .1 .0, omega arith)
 
--- src/lib.rt:180:9
 dfs-returns : (t : ℕ) → dfs-lts.Need-returns (callees t) (dfs-at t) dfs.Post dfs-Inv-loop dfs-μ-loop
 dfs-returns t c =
     let s = c .before .before .before in
     (sym (c .before .hopeless .ensures (c .if1 .taken)), s .pre .1 .1 .1)
 
--- src/lib.rt:182:9
 dfs-consider-requires : (t : ℕ) → dfs-lts.Need-consider-requires (callees t) (dfs-at t) dfs.Post dfs-Inv-loop dfs-μ-loop
 dfs-consider-requires t c κs = let s = c .before .before .before in let h = s .pre .1 .1 .0 in (s .pre .1 .0, (omega arith, s .pre .1 .1 .1))
 
--- src/lib.rt:184:9
 dfs-returns-2 : (t : ℕ) → dfs-lts.Need-returns-2 (callees t) (dfs-at t) dfs.Post dfs-Inv-loop dfs-μ-loop
 dfs-returns-2 t c =
     let s = c .before .before .before .before .before in (
@@ -65,13 +60,11 @@ dfs-returns-2 t c =
       c .before .consider .ensures .1,
     )
 
--- src/lib.rt:187:9
 dfs-gate-count-requires : (t : ℕ) → dfs-lts.Need-gate-count-requires (callees t) (dfs-at t) dfs.Post dfs-Inv-loop dfs-μ-loop
 dfs-gate-count-requires t c κs =
     let s = c .before .before .before .before .before in
     wires-within (s .args .job .now) (s .args .task) (s .args .s) (s .args .path) (s .args .n) (s .pre .1 .0)
 
--- src/lib.rt:189:5
 dfs-loop-holds : (t : ℕ) → dfs-lts.Need-loop-holds (callees t) (dfs-at t) dfs.Post dfs-Inv-loop dfs-μ-loop
 unfolding improve flatMap
 dfs-loop-holds t c =
@@ -80,13 +73,11 @@ dfs-loop-holds t c =
     let e = wires-are (s .args .job .now) (s .args .task) (s .args .s) (s .args .path) (s .args .n) (s .pre .1 .0) in
     (omega arith, (omega arith, (c .gate-count .ensures ∙ ap (λ (w : ℕ). length (gatesFor 2 w)) e, (c .before .before .consider .ensures .1, refl))))
 
--- src/lib.rt:190:13
 dfs-gate-at-requires : (t : ℕ) → dfs-lts.Need-gate-at-requires (callees t) (dfs-at t) dfs.Post dfs-Inv-loop dfs-μ-loop
 dfs-gate-at-requires t c κs =
     let s = c .before .before .before .before .before .before .before .before in
     wires-within (s .args .job .now) (s .args .task) (s .args .s) (s .args .path) (s .args .n) (s .pre .1 .0)
 
--- src/lib.rt:192:9
 dfs-array-write-longer : (t : ℕ) → dfs-lts.Need-array-write-longer (callees t) (dfs-at t) dfs.Post dfs-Inv-loop dfs-μ-loop
 dfs-array-write-longer t c =
     let s = c .before .before .before .before .before .before .before .before .before in
@@ -94,7 +85,6 @@ dfs-array-write-longer t c =
     let r = c .before .before .loop .inv .1 .0 in
     omega arith
 
--- src/lib.rt:193:13
 dfs-advance-requires : (t : ℕ) → dfs-lts.Need-advance-requires (callees t) (dfs-at t) dfs.Post dfs-Inv-loop dfs-μ-loop
 dfs-advance-requires t c κs =
     let s = c .before .before .before .before .before .before .before .before .before in
@@ -102,14 +92,12 @@ dfs-advance-requires t c κs =
     let k = s .pre .1 .0 .cheap in
     ((λ w. let e = s .pre .1 .0 .early w in omega arith), omega arith)
 
--- src/lib.rt:194:50
 dfs-add-dfs : (t : ℕ) → dfs-lts.Need-add-dfs (callees t) (dfs-at t) dfs.Post dfs-Inv-loop dfs-μ-loop
 dfs-add-dfs t c =
     let s = c .before .before .before .before .before .before .before .before .before .before in
     let h = s .pre .1 .1 .0 in
     record { fits = omega arith }
 
--- src/lib.rt:194:57
 dfs-sub-dfs : (t : ℕ) → dfs-lts.Need-sub-dfs (callees t) (dfs-at t) dfs.Post dfs-Inv-loop dfs-μ-loop
 dfs-sub-dfs t c = c .before .before .before .loop .inv .1 .0
 
@@ -117,7 +105,6 @@ dfs-sub-dfs t c = c .before .before .before .loop .inv .1 .0
 dfs-long : (t : ℕ) (s : dfs-lts.Start (callees t) (dfs-at t) dfs.Post dfs-Inv-loop dfs-μ-loop) → length (s .args .path) ≡ 12
 dfs-long t s = search needs
 
--- src/lib.rt:194:13
 dfs-dfs-requires : (t : ℕ) → dfs-lts.Need-dfs-requires (callees t) (dfs-at t) dfs.Post dfs-Inv-loop dfs-μ-loop
 dfs-dfs-requires t c κs =
     let p = c .before .before .before in
@@ -138,15 +125,12 @@ dfs-dfs-requires t c κs =
       ),
     )
 
--- src/lib.rt:196:9
 dfs-add-i : (t : ℕ) → dfs-lts.Need-add-i (callees t) (dfs-at t) dfs.Post dfs-Inv-loop dfs-μ-loop
 dfs-add-i t c = let b = c .before .before .before .loop-test .taken in let q = c .before .before .before .before .loop .inv .0 in search needs
 
--- src/lib.rt:189:5
 dfs-loop-less : (t : ℕ) → dfs-lts.Need-loop-less (callees t) (dfs-at t) dfs.Post dfs-Inv-loop dfs-μ-loop
 dfs-loop-less t c = let b = c .before .before .before .loop-test .taken in omega arith
 
--- src/lib.rt:189:5
 dfs-loop-again : (t : ℕ) → dfs-lts.Need-loop-again (callees t) (dfs-at t) dfs.Post dfs-Inv-loop dfs-μ-loop
 dfs-loop-again t c =
     let p = c .before .before .before .before in
@@ -174,7 +158,6 @@ dfs-loop-again t c =
       ),
     )
 
--- src/lib.rt:165:1
 dfs-returns-3 : (t : ℕ) → dfs-lts.Need-returns-3 (callees t) (dfs-at t) dfs.Post dfs-Inv-loop dfs-μ-loop
 dfs-returns-3 t c =
     let p = c .before in

@@ -1,29 +1,17 @@
-use Rattle.choice.specs.Choices.{attempt}
-use lib.ListN.{getD}
-use mathlib.Core.Path.{ap}
-use mathlib.Core.List.{List}
-use Prim.Native.Nat.{ℕ}
-use Rattle.choice.specs.Choices.{Choice}
-use lib.Seq.{take-all}
-use Rattle.search.proofs.Nodes.{outputs-are, here-is, layouts-turn}
-use mathlib.Core.Path.{_≡_, refl, sym, _∙_}
-use Prim.Native.Nat.{_≤_, _-_, _+_}
-use mathlib.Core.List.{map}
+use mathlib.Core.Path.{ap, _≡_, refl, _∙_}
+use mathlib.Core.List.{List, map}
+use Prim.Native.Nat.{ℕ, _≤_, _-_}
 use native.Mathlib.Omega.{arith}
-use lib.ListN.{length, take}
-use Rattle.record.specs.Jobs.{dataWires, freeLayout}
-use Rattle.record.specs.Layouts.{layoutsFor}
-use Rattle.choice.specs.Choices.{improve}
-use Rattle.best.specs.Inner.{view}
-use Rattle.search.specs.Outcomes.{choiceOf, here, good}
 use borrow.Author.Needs.{needs}
+use lib.ListN.{length, take}
+use lib.Seq.{take-all}
+use Rattle.choice.specs.Choices.{attempt, Choice, improve}
+use Rattle.record.specs.Layouts.{layoutsFor}
+use Rattle.best.specs.Inner.{view}
+use Rattle.search.specs.Outcomes.{choiceOf, good}
+use Rattle.search.proofs.Nodes.{outputs-are, here-is, layouts-turn}
 use Rattle.search.proofs.consider.Statement.{statement}
 use Rattle.search.proofs.consider.Tie as tie
-use Rattle.search.proofs.consider.Reads as reads
-use Rattle.search.proofs.consider.Lts as lts
-use Rattle.record.proofs.layout_at.Reads as layout-at-reads
-use Rattle.record.proofs.layout_count.Reads as layout-count-reads
-use Rattle.search.proofs.try_layout.Reads as try-layout-reads
 
 abbrev Inv-loop : tie.InvT-loop
 Inv-loop job task s path n count b₀ i₀ b i = (i ≤ count) × ((count ≡ length (layoutsFor (task .outputs) (task .free))) × ((b .len ≤ 12) × (view b ≡ improve (good job) (view b₀) (map (choiceOf job (take n path)) (take i (layoutsFor (task .outputs) (task .free)))))))
@@ -31,38 +19,28 @@ Inv-loop job task s path n count b₀ i₀ b i = (i ≤ count) × ((count ≡ le
 abbrev μ-loop : tie.MeasureT-loop
 μ-loop job task s path n count b₀ i₀ b i = count - i
 
--- src/lib.rt:115:9
 layout-count-requires : tie.Need-layout-count-requires Inv-loop μ-loop
 layout-count-requires c κs =
     let s = c .before in
     outputs-are (s .args .job .now) (s .args .task) (s .args .s) (s .args .path) (s .args .n) (s .pre .0)
 
--- src/lib.rt:118:5
 loop-holds : tie.Need-loop-holds Inv-loop μ-loop
 unfolding improve
 loop-holds c = (omega arith, (c .layout-count .ensures, (c .before .before .pre .1 .1, refl)))
 
--- src/lib.rt:119:13
 layout-at-requires : tie.Need-layout-at-requires Inv-loop μ-loop
 layout-at-requires c κs =
     let s = c .before .before .before .before in
     outputs-are (s .args .job .now) (s .args .task) (s .args .s) (s .args .path) (s .args .n) (s .pre .0)
 
--- src/lib.rt:120:13
 try-layout-requires : tie.Need-try-layout-requires Inv-loop μ-loop
 try-layout-requires c κs =
     let s = c .before .before .before .before .before in
     (s .pre .0, (s .pre .1 .0, c .before .before .loop .inv .1 .1 .0))
 
--- src/lib.rt:122:9
-add-i : tie.Need-add-i Inv-loop μ-loop
-add-i c = search needs
-
--- src/lib.rt:118:5
 loop-less : tie.Need-loop-less Inv-loop μ-loop
 loop-less c = let h = c .before .before .loop-test .taken in omega arith
 
--- src/lib.rt:118:5
 loop-again : tie.Need-loop-again Inv-loop μ-loop
 loop-again c =
     let p = c .before .before .before in
@@ -84,7 +62,6 @@ loop-again c =
       ),
     )
 
--- src/lib.rt:109:1
 returns : tie.Need-returns Inv-loop μ-loop
 returns c =
     let p = c .before in
@@ -108,7 +85,7 @@ consider-spec =
     loop-holds
     layout-at-requires
     try-layout-requires
-    add-i
+    (λ c. search needs)
     loop-less
     loop-again
     returns)

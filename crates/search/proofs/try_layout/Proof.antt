@@ -1,55 +1,20 @@
-use mathlib.Core.Bool.{Bool}
+use mathlib.Core.Path.{_≡_, refl, sym, ap, _∙_}
+use native.Mathlib.Omega.{arith}
+use borrow.Author.Tests.{not-true, not-false}
+use borrow.Author.Needs.{needs}
 use lib.Dec.{leb}
-use lib.ListN.{take}
+use lib.ListN.{take, length}
 use Rattle.logic.specs.Rules.{both}
 use Rattle.circuit.specs.Measure.{greatest}
 use Rattle.slices.specs.Wanted.{met}
 use Rattle.choice.specs.Choices.{keep}
-use Rattle.best.specs.Inner.{view, choice}
-use Rattle.search.specs.Outcomes.{choiceOf, good}
-use Rattle.search.proofs.Nodes.{attempt-good}
-use mathlib.Core.Path.{_≡_, refl, sym, ap, _∙_}
-use native.Mathlib.Omega.{arith}
-use borrow.Author.Tests.{not-true, not-false}
-use lib.ListN.{length}
-use Rattle.choice.specs.Choices.{attempt}
-use Rattle.search.proofs.Nodes.{good-is, mine-is}
+use Rattle.best.specs.Inner.{view}
 use Rattle.choice.proofs.First.{attempt-not}
-use borrow.Author.Needs.{needs}
+use Rattle.search.specs.Outcomes.{choiceOf, good}
+use Rattle.search.proofs.Nodes.{attempt-good, good-is, mine-is}
 use Rattle.search.proofs.try_layout.Statement.{statement}
 use Rattle.search.proofs.try_layout.Tie as tie
-use Rattle.search.proofs.try_layout.Reads as reads
-use Rattle.search.proofs.try_layout.Lts as lts
-use Rattle.best.proofs.offer.Reads as offer-reads
-use Rattle.circuit.proofs.latest.Reads as latest-reads
-use Rattle.logic.proofs.both.Reads as both-reads
-use Rattle.slices.proofs.met.Reads as met-reads
 
--- src/lib.rt:89:9
-latest-requires : tie.Need-latest-requires
-latest-requires c κs = search needs
-
--- src/lib.rt:91:9
-cast-both : tie.Need-cast-both
-cast-both c = search needs
-
--- src/lib.rt:92:9
-cast-both-2 : tie.Need-cast-both-2
-cast-both-2 c = search needs
-
--- src/lib.rt:90:9
-both-requires : tie.Need-both-requires
-both-requires c κs = search needs
-
--- src/lib.rt:94:21
-met-requires : tie.Need-met-requires
-met-requires c κs = search needs
-
--- src/lib.rt:94:9
-both-requires-2 : tie.Need-both-requires-2
-both-requires-2 c κs = search needs
-
--- src/lib.rt:95:9
 -- what the two tests come to
 tested : (c : tie.After-both2)
     → let s = c .before .before .before .before .before .before .before .before .before .before .before in
@@ -65,11 +30,6 @@ returns c =
     let job = s .args .job .now in
     (sym (attempt-not (good job) (view (s .args .best)) (choiceOf job (take (s .args .n) (s .args .path)) (s .args .p)) (sym (tested (c .before)) ∙ not-true _ (c .if1 .taken))), s .pre .1 .1)
 
--- src/lib.rt:105:5
-offer-requires : tie.Need-offer-requires
-offer-requires c κs = search needs
-
--- src/lib.rt:80:1
 returns-2 : tie.Need-returns-2
 returns-2 c =
     let s = c .before .before .before .before .before .before .before .before .before .before .before .before .before in
@@ -86,12 +46,12 @@ pub try-layout-spec : {M : Type 1} → statement M
 try-layout-spec =
     tie.close
     (tie.spec
-    latest-requires
-    cast-both
-    cast-both-2
-    both-requires
-    met-requires
-    both-requires-2
+    (λ c κs. search needs)
+    (λ c. search needs)
+    (λ c. search needs)
+    (λ c κs. search needs)
+    (λ c κs. search needs)
+    (λ c κs. search needs)
     returns
-    offer-requires
+    (λ c κs. search needs)
     returns-2)

@@ -8,7 +8,6 @@ use lib.Pow.{shl-exact}
 use lib.Bits.{bitAnd, bitXor, and-shr, and-mod, xor-shr, xor-mod}
 use Rattle.logic.specs.Bit.{bitOf}
 
--- at one bit they are `differ` and `min`
 pub bit-xor : (x a b : ℕ) → bitOf x (bitXor a b) ≡ bitXor (bitOf x a) (bitOf x b)
 bit-xor x a b = ap (λ (n : ℕ). n % 2 ^ 1) (xor-shr a b x) ∙ xor-mod (a / 2 ^ x) (b / 2 ^ x) 1
 

@@ -5,13 +5,14 @@ use mathlib.Core.Logic.{_⊎_, inl, inr, ⊎-elim, _↔_}
 use mathlib.Core.List.{List, [], _∷_, List·Memᴰ, Memᴰ·map, Memᴰ·of-map}
 use mathlib.Core.Option.{Option, none, some}
 use Prim.Native.Nat.{ℕ, _+_, _*_, _≤_, _<_}
+use native.Mathlib.Decide.{ℕ-discrete}
 use native.Mathlib.Omega.{arith}
-use borrow.Author.Tests.{leb-true, le-leb, eqb-true}
-use lib.Dec.{leb, eqb}
+use borrow.Author.Tests.{leb-true, le-leb, eqb-true, ne-eqb}
+use lib.Dec.{leb, eqb, lit<}
 use lib.ListN.{length}
-use Rattle.logic.specs.Rules.{both, pick}
+use Rattle.logic.specs.Rules.{both, pick, rule}
 use Rattle.logic.specs.Lists.{allOf}
-use Rattle.logic.proofs.Chain.{both-left, both-right, both-true}
+use Rattle.logic.proofs.Chain.{both-left, both-right, both-true, and-then-zero, rule-kept}
 use Rattle.gate.specs.Gates.{lawful}
 use Rattle.circuit.specs.Measure.{cost, depth}
 use Rattle.record.specs.Jobs.{dataWires, ancillas, wires, freeLayout, gateLimit, costLimit, depthLimit, priceOf, durationOf, jobCode}
@@ -238,3 +239,14 @@ module _ (job : List ℕ) (sound : jobCode job ≡ 0) where
         by-test : (c : Choice) (t : Bool) → good job c ≡ t → (good job c ≡ true → ⊥) → good job c ≡ false
         by-test c false e f = e
         by-test c true e f = absurd (f e)
+
+-- whatever the job and the buffer: a circuit is returned only for a well-formed job and at least 15 bytes
+pub found-sound : (job : List ℕ) (room : ℕ) (bytes : List ℕ) (m : Measures) → searchOf job room ≡ found bytes m → (jobCode job ≡ 0) × (15 ≤ room)
+unfolding searchOf searchCode
+found-sound job room bytes m h = by-code (ℕ-discrete (searchCode job room) 0)
+  where
+    by-code : Dec (searchCode job room ≡ 0) → (jobCode job ≡ 0) × (15 ≤ room)
+    by-code (yes e) =
+        let p = and-then-zero (jobCode job) (rule (leb 15 room) 13 0) e in
+        (p .0, leb-true 15 room (rule-kept (leb 15 room) 13 0 (lit< tt) (p .1) .0))
+    by-code (no n) = let w = rw (ne-eqb (searchCode job room) 0 n) at h in let z : _≡_ {A = ℕ} 0 1 = cc in absurd (omega arith)

@@ -19,6 +19,7 @@ fn main() {
     run_file(b"verifying");
     run_file(b"parity");
     run_file(b"search");
+    run_file(b"lines");
 }
 
 fn say(text: &[u8]) {
@@ -82,6 +83,7 @@ fn dispatch(letter: u8, first: &[u8], second: &[u8]) {
         b'v' => say_measured(verify::verify(first, second)),
         b'p' => say_parity(parity::parity(first)),
         b's' => say_search(first, logic::at(second, 0)),
+        b'l' => say_line(first),
         _ => say(b"unknown"),
     }
 }
@@ -202,6 +204,21 @@ fn say_bytes(bytes: &[u8]) {
     while i < bytes.len() {
         say_byte(bytes[i]);
         i += 1;
+    }
+}
+
+// The line that `main` prints, without its line feed.
+fn say_line(job: &[u8]) {
+    let mut out = [0u8; 64];
+    let size = line::line(job, &mut out);
+    say_front(&out, size);
+}
+
+fn say_front(text: &[u8], size: usize) {
+    if 0 < size {
+        if size <= text.len() {
+            say(&text[..size - 1]);
+        }
     }
 }
 

@@ -1,6 +1,6 @@
 -- What a code of 0 says of its parts.
 use mathlib.Core.Path.{_≡_}
-use mathlib.Core.Bool.{true}
+use mathlib.Core.Bool.{Bool, true, false}
 use mathlib.Core.List.{List}
 use mathlib.Core.Logic.{⊎-elim}
 use Prim.Native.Nat.{ℕ, _^_, _≤_, _<_}
@@ -10,7 +10,7 @@ use borrow.Author.Tests.{ltb-true}
 use lib.Dec.{ltb, lit<}
 use lib.ListN.{length, length-drop}
 use lib.Pow.{pow-mono}
-use Rattle.logic.specs.Rules.{rule, andThen}
+use Rattle.logic.specs.Rules.{pick, rule, andThen}
 use Rattle.logic.proofs.Chain.{and-then-zero, rule-kept}
 use Rattle.circuit.specs.Run.{forwards, backwards}
 use Rattle.circuit.proofs.Reversal.{stays, stays-back}
@@ -34,13 +34,11 @@ module _ (c : List ℕ) where
       (p .0, ltb-true v (2 ^ wires c) (rule-kept (ltb v (2 ^ wires c)) 20 0 (lit< tt) (p .1) .0))
 
   -- the end value of a run is a byte
-  pub ran-forwards : (v : ℕ) → runCode c v ≡ 0 → forwards (gates c) v < 32
-  ran-forwards v h =
+  pub ran-small : (forth : Bool) (v : ℕ) → runCode c v ≡ 0 → pick forth (forwards (gates c) v) (backwards (gates c) v) < 32
+  ran-small true v h =
       let p = run-parts v h in
       lt-of-lt-of-le (stays 2 (wires c) (gates c) v (sound-circuit c (p .0) .kept) (p .1)) (pow-mono (wires-most (p .0)))
-
-  pub ran-backwards : (v : ℕ) → runCode c v ≡ 0 → backwards (gates c) v < 32
-  ran-backwards v h =
+  ran-small false v h =
       let p = run-parts v h in
       lt-of-lt-of-le (stays-back 2 (wires c) (gates c) v (sound-circuit c (p .0) .kept) (p .1)) (pow-mono (wires-most (p .0)))
 

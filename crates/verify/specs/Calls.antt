@@ -1,5 +1,5 @@
 -- What running, measuring and verifying (document 01: judging) answer.
-use mathlib.Core.Bool.{Bool}
+use mathlib.Core.Bool.{Bool, true, false}
 use mathlib.Core.List.{List}
 use Prim.Native.Nat.{ℕ, _^_}
 use lib.Dec.{ltb, leb, eqb}
@@ -23,11 +23,15 @@ runCode c v = andThen (circuitCode c) (rule (ltb v (2 ^ wires c)) 20 0)
 abbrev pub ranOf : ℕ → ℕ → Ran
 ranOf code result = pick (eqb code 0) (Value result) (Ran.Refused code)
 
-unfoldable pub forwardsOf : List ℕ → ℕ → Ran
-forwardsOf c v = ranOf (runCode c v) (forwards (gates c) v)
+-- one way or the other
+unfoldable pub runOf : Bool → List ℕ → ℕ → Ran
+runOf forth c v = ranOf (runCode c v) (pick forth (forwards (gates c) v) (backwards (gates c) v))
 
-unfoldable pub backwardsOf : List ℕ → ℕ → Ran
-backwardsOf c v = ranOf (runCode c v) (backwards (gates c) v)
+abbrev pub forwardsOf : List ℕ → ℕ → Ran
+forwardsOf c v = runOf true c v
+
+abbrev pub backwardsOf : List ℕ → ℕ → Ran
+backwardsOf c v = runOf false c v
 
 -- gates, cost and depth of a list
 unfoldable pub measuresOf : (ℕ → ℕ) → (ℕ → ℕ) → List ℕ → Measures

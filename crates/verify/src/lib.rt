@@ -4,12 +4,13 @@ ghost use mathlib.Core.Path.{_≡_};
 ghost use mathlib.Core.Logic.{_⊎_};
 ghost use Prim.Native.Nat.{_≤_, _<_};
 ghost use lib.ListN.{length};
+ghost use Rattle.logic.specs.Rules.{pick};
 ghost use Rattle.circuit.specs.Run.{forwards, backwards};
 ghost use Rattle.circuit.specs.Measure.{weightOf};
 ghost use Rattle.record.specs.Jobs.{dataWires, jobCode, rows};
 ghost use Rattle.record.specs.Circuits.{circuitCode, gates};
 ghost use Rattle.verify.specs.Realize.{bitAgrees, rowAgrees, agrees, realizes, allowed};
-ghost use Rattle.verify.specs.Calls.{runCode, forwardsOf, backwardsOf, measuresOf, sameWires, measuredOf, measureCode, measureOf, limitRules, limitsCode, verifyRest, verifyCode, verifyOf, ranCode, measuredCode};
+ghost use Rattle.verify.specs.Calls.{runCode, runOf, forwardsOf, backwardsOf, measuresOf, sameWires, measuredOf, measureCode, measureOf, limitRules, limitsCode, verifyRest, verifyCode, verifyOf, ranCode, measuredCode};
 
 // Gates, cost and depth.
 pub struct Measures {
@@ -38,16 +39,34 @@ fn run_code(c: &[u8], value: u8) -> u8
     logic::and_then(code, logic::rule(logic::wide(value) < (1 << w), 20, 0))
 }
 
-// Runs a circuit from its first gate to its last.
-pub fn run_forwards(c: &[u8], value: u8) -> Ran
-    ensures { λ r. ⌜ r ≡ forwardsOf (now (c .entry)) value ⌝ }
+fn run_list(forth: bool, list: &[u8], value: usize) -> usize
+    ensures { λ r. ⌜ r ≡ pick forth (forwards (now (list .entry)) value) (backwards (now (list .entry)) value) ⌝ }
+{
+    if forth {
+        circuit::forwards(list, value)
+    } else {
+        circuit::backwards(list, value)
+    }
+}
+
+// Runs a circuit one way or the other.
+fn run(forth: bool, c: &[u8], value: u8) -> Ran
+    ensures { λ r. ⌜ r ≡ runOf forth (now (c .entry)) value ⌝ }
     ensures { λ r. ⌜ ranCode r ≡ runCode (now (c .entry)) value ⌝ }
 {
     let code = run_code(c, value);
     if code != 0 {
         return Ran::Refused(code);
     }
-    Ran::Value(circuit::forwards(record::gate_list(c), logic::wide(value)) as u8)
+    Ran::Value(run_list(forth, record::gate_list(c), logic::wide(value)) as u8)
+}
+
+// Runs a circuit from its first gate to its last.
+pub fn run_forwards(c: &[u8], value: u8) -> Ran
+    ensures { λ r. ⌜ r ≡ forwardsOf (now (c .entry)) value ⌝ }
+    ensures { λ r. ⌜ ranCode r ≡ runCode (now (c .entry)) value ⌝ }
+{
+    run(true, c, value)
 }
 
 // Runs a circuit from its last gate to its first.
@@ -55,11 +74,7 @@ pub fn run_backwards(c: &[u8], value: u8) -> Ran
     ensures { λ r. ⌜ r ≡ backwardsOf (now (c .entry)) value ⌝ }
     ensures { λ r. ⌜ ranCode r ≡ runCode (now (c .entry)) value ⌝ }
 {
-    let code = run_code(c, value);
-    if code != 0 {
-        return Ran::Refused(code);
-    }
-    Ran::Value(circuit::backwards(record::gate_list(c), logic::wide(value)) as u8)
+    run(false, c, value)
 }
 
 // The measures of a gate list.

@@ -2,35 +2,36 @@ use mathlib.Core.Path.{_≡_, sym, _∙_, ap}
 use native.Mathlib.Omega.{arith}
 use borrow.Author.Tests.{ne-eqb}
 use borrow.Author.Needs.{needs}
-use Rattle.circuit.specs.Run.{backwards}
+use Rattle.logic.specs.Rules.{pick}
+use Rattle.circuit.specs.Run.{forwards, backwards}
 use Rattle.record.specs.Circuits.{gates}
-use Rattle.verify.specs.Calls.{backwardsOf}
 use Rattle.verify.specs.declared.Ran.the-variants.{Value}
-use Rattle.verify.proofs.Codes.{ran-backwards}
-use Rattle.verify.proofs.run_backwards.Statement.{statement}
-use Rattle.verify.proofs.run_backwards.Tie as tie
+use Rattle.verify.specs.Calls.{runOf}
+use Rattle.verify.proofs.Codes.{ran-small}
+use Rattle.verify.proofs.run.Statement.{statement}
+use Rattle.verify.proofs.run.Tie as tie
 
 returns : tie.Need-returns
-unfolding backwardsOf
+unfolding runOf
 returns c = (rw (← c .before .run-code .ensures, ne-eqb _ _ (c .if1 .taken)), c .before .run-code .ensures)
 
-cast-t8 : tie.Need-cast-t8
-cast-t8 c =
+cast-t9 : tie.Need-cast-t9
+cast-t9 c =
     let s = c .before .before .before .before .before .before in
     let e = sym (c .before .before .before .before .run-code .ensures) ∙ c .before .before .before .if1 .left in
-    let f : c .backwards .result ≡ backwards (gates (s .args .c .now)) (s .args .value) = cc in
-    omega (arith, ran-backwards (s .args .c .now) (s .args .value) e)
+    let f : c .run-list .result ≡ pick (s .args .forth) (forwards (gates (s .args .c .now)) (s .args .value)) (backwards (gates (s .args .c .now)) (s .args .value)) = cc in
+    omega (arith, ran-small (s .args .c .now) (s .args .forth) (s .args .value) e)
 
 returns-2 : tie.Need-returns-2
-unfolding backwardsOf
+unfolding runOf
 returns-2 c =
     let s = c .before .before .before .before .before .before in
     let e = sym (c .before .before .before .before .run-code .ensures) ∙ c .before .before .before .if1 .left in
-    let f : c .backwards .result ≡ backwards (gates (s .args .c .now)) (s .args .value) = cc in
+    let f : c .run-list .result ≡ pick (s .args .forth) (forwards (gates (s .args .c .now)) (s .args .value)) (backwards (gates (s .args .c .now)) (s .args .value)) = cc in
     (rw e (ap Value f), sym e)
 
-pub run-backwards-spec : {M : Type 1} → statement M
-run-backwards-spec =
+pub run-spec : {M : Type 1} → statement M
+run-spec =
     tie.close
     (tie.spec
     (λ c κs. search needs)
@@ -38,5 +39,5 @@ run-backwards-spec =
     (λ c κs. search needs)
     (λ c κs. search needs)
     (λ c κs. search needs)
-    cast-t8
+    cast-t9
     returns-2)

@@ -1,0 +1,792 @@
+//! A fast search for document 01's cheapest circuit, in plain Rust and without proofs: the
+//! rival of the proved program. Reads a job from standard input and prints the line that
+//! `main` prints. Build: rustc -O plain.rs
+//! Run: plain [--rules base|full|max] [--stats] [--reach FROM,RADIUS]
+//!
+//! A state holds one column per wire; bit x of a column is the wire's value in row x.
+//! Rules, named as in search-rules.md:
+//!   base  one depth-first search with cuts: cost above the limit or the best; cost equal to
+//!         the best and more gates; ready times above the depth limit; B1 on outputs.
+//!         An odd table on four wires is infeasible (parity), before any search.
+//!   full  base and I1, I2 (deepening on cost, then on gates), F (feasibility first), B1 on
+//!         wires too, B2 (fix test), B3 (affine span, greatest count of affordable gates).
+//!   max   full and E1 (a run looks only at lists of exactly its cost and its gates; F only
+//!         for equal prices), N1 (one gate that changes nothing), N2, N3, B4, B5 (m = 0).
+use std::io::Read;
+
+const ONES: usize = 5; // the column of an absent control
+type Columns = [u16; 8]; // five wires, ONES, and two more so that an index & 7 is in bounds
+const MAX_COST: usize = 12 * 255;
+/// From how many gates on a run fills the reach filters, and to which radius. The option
+/// --reach puts one pair in their place, so that small jobs can test the filters too.
+const REACH_PLAN: [(usize, usize); 2] = [(7, 4), (11, 5)];
+
+#[derive(Clone, Copy)]
+enum Rules {
+    Base,
+    Full,
+    Max,
+}
+
+struct Options {
+    rules: Rules,
+    stats: bool,
+    reach_plan: Vec<(usize, usize)>,
+}
+
+// ---------------------------------------------------------------------------- the job
+
+#[derive(Clone, Copy)]
+struct Gate {
+    byte: u8,
+    target: usize,
+    controls: [usize; 2], // ONES where absent
+    kind: usize,
+    wires: u8,
+}
+
+struct Layout {
+    byte: u8,
+    wires: [usize; 4],
+}
+
+struct Job {
+    n: usize,
+    m: usize,
+    free: bool,
+    gate_limit: usize,
+    cost_limit: u32,
+    depth_limit: u16,
+    prices: [u32; 3],
+    durations: [u16; 3],
+    target: [u16; 4],   // wanted value of each output, as a column
+    care: [u16; 4],     // care mask of each output, as a column
+    rows: u16,          // one bit a row
+    full_rows: u16,     // the rows whose care mask is full
+    gates: Vec<Gate>,   // in rising byte order
+    layouts: Vec<Layout>,
+}
+
+fn refusal(b: &[u8]) -> u8 {
+    let row_ok = |row: u8| row & 15 & !(row >> 4) == 0 && (row >> 4) >> (b[0] >> 5) == 0;
+    if b.len() != 20 && b.len() != 28 {
+        1
+    } else if (b[0] >> 5, b.len()) != (3, 20) && (b[0] >> 5, b.len()) != (4, 28) {
+        2
+    } else if b[0] & 0x13 != 0 {
+        3
+    } else if b[1] > 12 {
+        4
+    } else if b[9..12].contains(&0) {
+        5
+    } else if !b[12..].iter().all(|&row| row_ok(row)) {
+        6
+    } else {
+        0
+    }
+}
+
+fn gate_of(byte: u8) -> Gate {
+    let mask = byte & 31;
+    let mut controls = [ONES; 2];
+    for (slot, wire) in (0..5).filter(|i| mask >> i & 1 == 1).enumerate() {
+        controls[slot] = wire;
+    }
+    let target = (byte >> 5) as usize;
+    Gate { byte, target, controls, kind: mask.count_ones() as usize, wires: mask | 1 << target }
+}
+
+fn gates_of(w: usize) -> Vec<Gate> {
+    let lawful = |byte: &u8| {
+        let (target, mask) = (byte >> 5, byte & 31);
+        (target as usize) < w && mask >> w == 0 && mask >> target & 1 == 0 && mask.count_ones() <= 2
+    };
+    (0..=255).filter(lawful).map(gate_of).collect()
+}
+
+fn layouts_of(n: usize, free: bool) -> Vec<Layout> {
+    let mut layouts = Vec::new();
+    for byte in 0..=255u8 {
+        let wires = [byte >> 6, byte >> 4 & 3, byte >> 2 & 3, byte & 3].map(|i| i as usize);
+        let named = wires[..n].iter().fold(0, |set, i| set | 1 << i);
+        let plain = (0..n).all(|j| wires[j] == j);
+        if named == (1 << n) - 1 && (n == 4 || wires[3] == 0) && (free || plain) {
+            layouts.push(Layout { byte, wires });
+        }
+    }
+    layouts
+}
+
+fn job_of(b: &[u8]) -> Job {
+    let (n, m, free) = ((b[0] >> 5) as usize, (b[0] >> 3 & 3) as usize, b[0] >> 2 & 1 == 1);
+    let mut job = Job {
+        n,
+        m,
+        free,
+        gate_limit: b[1] as usize,
+        cost_limit: u16::from_be_bytes([b[2], b[3]]) as u32,
+        depth_limit: u16::from_be_bytes([b[4], b[5]]),
+        prices: [b[6], b[7], b[8]].map(u32::from),
+        durations: [b[9], b[10], b[11]].map(u16::from),
+        target: [0; 4],
+        care: [0; 4],
+        rows: ((1u32 << (1 << n)) - 1) as u16,
+        full_rows: 0,
+        gates: gates_of(n + m),
+        layouts: layouts_of(n, free),
+    };
+    for (x, &row) in b[12..].iter().enumerate() {
+        for j in 0..n {
+            job.target[j] |= ((row >> j & 1) as u16) << x;
+            job.care[j] |= ((row >> (4 + j) & 1) as u16) << x;
+        }
+    }
+    job.full_rows = job.care[..n].iter().fold(job.rows, |all, mask| all & mask);
+    job
+}
+
+/// Whether the table is an odd permutation of all its rows.
+fn odd(job: &Job) -> bool {
+    let rows = 1 << job.n;
+    let value = |x: usize| (0..job.n).fold(0, |v, j| v | (job.target[j] >> x & 1) << j);
+    let values: Vec<u16> = (0..rows).map(value).collect();
+    let seen = values.iter().fold(0u16, |set, v| set | 1 << v);
+    let inversions: usize =
+        (0..rows).map(|y| (0..y).filter(|&x| values[x] > values[y]).count()).sum();
+    job.full_rows == job.rows && seen == job.rows && inversions % 2 == 1
+}
+
+// ---------------------------------------------------------------------------- states
+
+#[derive(Clone, Copy)]
+struct State {
+    columns: Columns,
+    ready: [u16; 8], // that of ONES stays 0
+    depth: u16,
+    matched: [u8; 4], // for each data wire the outputs that it could be now, one bit each
+}
+
+impl Job {
+    /// The outputs that this column could be, on data wire i.
+    #[inline(always)]
+    fn matches<const N: usize, const FREE: bool>(&self, i: usize, column: u16) -> u8 {
+        let same = |j: usize| (((column ^ self.target[j]) & self.care[j] == 0) as u8) << j;
+        if FREE {
+            let mut set = 0;
+            for j in 0..N {
+                set |= same(j);
+            }
+            set
+        } else {
+            same(i)
+        }
+    }
+
+    fn start<const N: usize, const FREE: bool>(&self) -> State {
+        let mut columns = [0xAAAA, 0xCCCC, 0xF0F0, 0xFF00, 0, 0xFFFF, 0, 0].map(|c: u16| c & self.rows);
+        if N == 3 {
+            columns[3] = 0;
+        }
+        let mut state = State { columns, ready: [0; 8], depth: 0, matched: [0; 4] };
+        for i in 0..N {
+            state.matched[i] = self.matches::<N, FREE>(i, columns[i]);
+        }
+        state
+    }
+
+    /// The first layout in byte order that makes this state realize the table.
+    fn layout_for(&self, matched: &[u8; 4]) -> Option<u8> {
+        let fits = |l: &&Layout| (0..self.n).all(|j| matched[l.wires[j]] >> j & 1 == 1);
+        self.layouts.iter().find(fits).map(|l| l.byte)
+    }
+
+    /// Occupies the gate's wires for its duration.
+    #[inline(always)]
+    fn schedule(&self, state: &mut State, gate: &Gate) {
+        let (t, [a, b]) = (gate.target & 7, gate.controls.map(|c| c & 7));
+        let r = &mut state.ready;
+        let end = r[t].max(r[a]).max(r[b]) + self.durations[gate.kind];
+        r[t] = end;
+        r[a] = end;
+        r[b] = end;
+        r[ONES] = 0;
+        state.depth = state.depth.max(end);
+    }
+}
+
+/// What the gate adds to its target's column.
+#[inline(always)]
+fn product(columns: &Columns, gate: &Gate) -> u16 {
+    columns[gate.controls[0] & 7] & columns[gate.controls[1] & 7]
+}
+
+/// The number of ones of a set of outputs (rustc -O alone has no instruction for it).
+#[inline(always)]
+fn ones(set: u8) -> u32 {
+    (0x4332_3221_3221_2110u64 >> (4 * (set & 15)) & 7) as u32
+}
+
+#[inline(always)]
+fn unmatched_outputs<const N: usize>(matched: &[u8; 4]) -> u32 {
+    N as u32 - ones(matched[0] | matched[1] | matched[2] | matched[3])
+}
+
+#[inline(always)]
+fn unmatched_wires<const N: usize>(matched: &[u8; 4]) -> u32 {
+    (0..N).map(|i| (matched[i] == 0) as u32).sum()
+}
+
+/// For each wire the outputs that the other data wires could be (an ancilla: all of them).
+#[inline(always)]
+fn others<const N: usize>(matched: &[u8; 4]) -> [u8; 5] {
+    std::array::from_fn(|t| (0..N).filter(|&i| i != t).fold(0, |set, i| set | matched[i]))
+}
+
+/// For each wire the number of other data wires that match no output.
+#[inline(always)]
+fn others_unmatched<const N: usize>(matched: &[u8; 4]) -> [u32; 5] {
+    std::array::from_fn(|t| (0..N).filter(|&i| i != t).map(|i| (matched[i] == 0) as u32).sum())
+}
+
+/// Cost, gates, depth, layout byte, gate bytes: compared in this order.
+type Key = (u32, usize, u16, u8, Vec<u8>);
+
+fn keep(best: &mut Option<Key>, key: Key) {
+    if best.as_ref().map_or(true, |old| key < *old) {
+        *best = Some(key);
+    }
+}
+
+// ---------------------------------------------------------------------------- base rules
+
+struct Base<'a> {
+    job: &'a Job,
+    path: [u8; 12],
+    best: Option<Key>,
+    best_cost: u32, // the best's, or the limit's
+    best_gates: usize,
+    nodes: u64,
+}
+
+impl Base<'_> {
+    fn search<const N: usize, const FREE: bool>(&mut self, r: usize, len: usize, s: &State, cost: u32) {
+        self.nodes += 1;
+        if unmatched_outputs::<N>(&s.matched) == 0 {
+            if let Some(layout) = self.job.layout_for(&s.matched) {
+                keep(&mut self.best, (cost, len, s.depth, layout, self.path[..len].to_vec()));
+                let best = self.best.as_ref().unwrap();
+                (self.best_cost, self.best_gates) = (best.0, best.1);
+            }
+        }
+        if r == 0 {
+            return;
+        }
+        let job = self.job;
+        let others = others::<N>(&s.matched);
+        for gate in &job.gates {
+            let cost = cost + job.prices[gate.kind];
+            if cost > self.best_cost || cost == self.best_cost && len + 1 > self.best_gates {
+                continue;
+            }
+            let t = gate.target;
+            let column = s.columns[t & 7] ^ product(&s.columns, gate);
+            let matched = if t < N { job.matches::<N, FREE>(t, column) } else { 0 };
+            if N as u32 - ones(others[t] | matched) > r as u32 - 1 {
+                continue;
+            }
+            let mut child = *s;
+            child.columns[t & 7] = column;
+            if t < N {
+                child.matched[t] = matched;
+            }
+            job.schedule(&mut child, gate);
+            if child.depth > job.depth_limit {
+                continue;
+            }
+            self.path[len] = gate.byte;
+            self.search::<N, FREE>(r - 1, len + 1, &child, cost);
+        }
+    }
+}
+
+fn solve_base<const N: usize, const FREE: bool>(job: &Job) -> (Option<Key>, u64) {
+    let mut base = Base {
+        job,
+        path: [0; 12],
+        best: None,
+        best_cost: job.cost_limit,
+        best_gates: 12,
+        nodes: 0,
+    };
+    base.search::<N, FREE>(job.gate_limit, 0, &job.start::<N, FREE>(), 0);
+    (base.best, base.nodes)
+}
+
+// ---------------------------------------------------------------------------- reach filters
+
+/// B4 and B5: lossy sets of the states within `radius` gates of the target, whole, without
+/// one wire and without two. Only fully wanted rows enter the hash.
+struct Reach {
+    radius: usize,
+    shift: u32,
+    whole: Vec<u64>,
+    less_one: Vec<u64>,
+    less_two: Vec<u64>,
+}
+
+/// A data wire's share of the hash; wires are alike when the layout is free.
+#[inline(always)]
+fn share<const FREE: bool>(wire: usize, column: u16) -> u64 {
+    let tag = if FREE { 1 } else { wire as u64 + 1 };
+    let x = (tag << 16 | column as u64).wrapping_mul(0x9E37_79B9_7F4A_7C15);
+    (x ^ x >> 29).wrapping_mul(0xBF58_476D_1CE4_E5B9)
+}
+
+impl Reach {
+    fn new(radius: usize) -> Reach {
+        let bits = if radius <= 4 { 22 } else { 25 };
+        let set = || vec![0u64; 1 << (bits - 6)];
+        Reach { radius, shift: 64 - bits, whole: set(), less_one: set(), less_two: set() }
+    }
+
+    #[inline(always)]
+    fn add(shift: u32, set: &mut [u64], hash: u64) {
+        let ix = hash.wrapping_mul(0x94D0_49BB_1331_11EB) >> shift;
+        set[ix as usize >> 6] |= 1 << (ix & 63);
+    }
+
+    #[inline(always)]
+    fn has(&self, set: &[u64], hash: u64) -> bool {
+        let ix = hash.wrapping_mul(0x94D0_49BB_1331_11EB) >> self.shift;
+        set[ix as usize >> 6] >> (ix & 63) & 1 == 1
+    }
+
+    fn fill<const N: usize, const FREE: bool>(&mut self, gates: &[Gate], columns: &Columns, k: usize) {
+        let shares: [u64; N] = std::array::from_fn(|i| share::<FREE>(i, columns[i]));
+        let hash = shares.iter().fold(0u64, |h, s| h.wrapping_add(*s));
+        Reach::add(self.shift, &mut self.whole, hash);
+        for t in 0..N {
+            let less = hash.wrapping_sub(shares[t]);
+            Reach::add(self.shift, &mut self.less_one, less);
+            for u in 0..t {
+                Reach::add(self.shift, &mut self.less_two, less.wrapping_sub(shares[u]));
+            }
+        }
+        if k > 0 {
+            for gate in gates {
+                let mut next = *columns;
+                next[gate.target & 7] ^= product(columns, gate);
+                self.fill::<N, FREE>(gates, &next, k - 1);
+            }
+        }
+    }
+}
+
+// ---------------------------------------------------------------------------- full and max
+
+/// One run of the deepening: the best list of at most (max: exactly) `gates` gates and cost
+/// at most (max: exactly) `cost`.
+struct Deep<'a> {
+    job: &'a Job,
+    use_span: bool,       // B3 is of use: a Toffoli costs more than some other gate
+    cheap: u32,           // the lower price of NOT and CNOT
+    first_only: bool,     // F for unequal prices: any list will do
+    possible: Vec<Vec<u16>>, // E1: [gates][budget], bit t: some list with t Toffolis
+    commute: Vec<u64>,    // N2, N3: by gate, as sets of gates
+    disjoint: Vec<u64>,
+    reach: Option<Reach>,
+    reach_plan: &'a [(usize, usize)],
+    path: [u8; 12],
+    best: Option<Key>,
+    best_depth: u16, // the best's, or the limit's
+    allowance: u32, // the run's cost
+    nodes: u64,
+}
+
+/// What a node passes down beside the state.
+#[derive(Clone, Copy)]
+struct Node {
+    r: usize,
+    budget: u32,
+    rho: u32, // B3: Toffolis still needed
+    sleep: u64,
+    cancel: u64,
+    targets: u8, // B5: the next gate's targets
+}
+
+impl Deep<'_> {
+    /// B3: dim(V + T) - dim V on the fully wanted rows, by elimination.
+    fn span_gap<const N: usize>(&self, columns: &Columns) -> u32 {
+        let mut basis = [0u16; 12];
+        let mut dim = 0;
+        let rows = self.job.full_rows;
+        let mut insert = |column: u16| {
+            let mut x = column & rows;
+            for b in &basis[..dim] {
+                x = x.min(x ^ b);
+            }
+            basis[dim] = x;
+            dim += (x != 0) as usize;
+            (x != 0) as u32
+        };
+        for &column in columns {
+            insert(column);
+        }
+        (0..N).map(|j| insert(self.job.target[j])).sum()
+    }
+
+    /// B3: the greatest number of gates that the budget allows, or None to cut.
+    #[inline(always)]
+    fn affordable(&self, r: usize, budget: u32, rho: u32) -> Option<usize> {
+        let toffoli = self.job.prices[2];
+        if self.use_span {
+            if rho as usize > r || rho * toffoli > budget {
+                return None;
+            }
+            if self.cheap > 0 {
+                return Some(r.min((rho + (budget - rho * toffoli) / self.cheap) as usize));
+            }
+        } else if toffoli > 0 {
+            return Some(r.min((budget / toffoli) as usize));
+        }
+        Some(r)
+    }
+
+    /// The greatest count of gates still to come, or None to cut.
+    #[inline(always)]
+    fn effective<const MAX: bool>(&self, r: usize, budget: u32, rho: u32) -> Option<usize> {
+        if MAX {
+            let budget = (budget as usize).min(MAX_COST);
+            if self.possible[r][budget] >> rho == 0 { None } else { Some(r) }
+        } else {
+            self.affordable(r, budget, rho)
+        }
+    }
+
+    /// B2, where every gate still to come must be the only write to a wire that is wrong: can
+    /// the next gate give some wire i the value of an output j that it doesn't match now?
+    /// Only unmatched wires (outputs) count if these alone make up the gates to come.
+    fn fixable<const N: usize, const FREE: bool>(&self, s: &State, gates: usize) -> bool {
+        let job = self.job;
+        let w = N + job.m;
+        let by_wires = unmatched_wires::<N>(&s.matched) as usize == gates;
+        let by_outputs = unmatched_outputs::<N>(&s.matched) as usize == gates;
+        let any = s.matched[0] | s.matched[1] | s.matched[2] | s.matched[3];
+        for i in (0..N).filter(|&i| !by_wires || s.matched[i] == 0) {
+            let mut products = [s.columns[ONES]; 16];
+            let mut count = 1;
+            for a in (0..w).filter(|&a| a != i) {
+                products[count] = s.columns[a];
+                count += 1;
+                for b in (0..a).filter(|&b| b != i) {
+                    products[count] = s.columns[a] & s.columns[b];
+                    count += 1;
+                }
+            }
+            for j in if FREE { 0..N } else { i..i + 1 } {
+                let wrong = (s.columns[i] ^ job.target[j]) & job.care[j];
+                let skip = wrong == 0 || by_outputs && any >> j & 1 == 1;
+                if !skip && products[..count].iter().any(|p| p & job.care[j] == wrong) {
+                    return true;
+                }
+            }
+        }
+        false
+    }
+
+    fn offer(&mut self, s: &State, len: usize, cost: u32) {
+        if let Some(layout) = self.job.layout_for(&s.matched) {
+            keep(&mut self.best, (cost, len, s.depth, layout, self.path[..len].to_vec()));
+            self.best_depth = self.best.as_ref().unwrap().2;
+        }
+    }
+
+    fn search<const N: usize, const FREE: bool, const MAX: bool>(&mut self, len: usize, s: &State, node: Node) {
+        self.nodes += 1;
+        let wrong = unmatched_outputs::<N>(&s.matched).max(unmatched_wires::<N>(&s.matched));
+        if wrong == 0 && (node.r == 0 || !MAX) {
+            self.offer(s, len, self.allowance - node.budget);
+        }
+        let Some(r_eff) = self.effective::<MAX>(node.r, node.budget, node.rho) else { return };
+        if r_eff == 0 || wrong as usize > r_eff || self.first_only && self.best.is_some() {
+            return;
+        }
+        if wrong as usize == r_eff && !self.fixable::<N, FREE>(s, r_eff) {
+            return;
+        }
+        let job = self.job;
+        let mut targets = node.targets;
+        let mut next_targets = [0xFF; 5];
+        let mut hash = 0u64;
+        let mut near = false;
+        if MAX {
+            if let Some(reach) = &self.reach {
+                let shares: [u64; N] =
+                    std::array::from_fn(|i| share::<FREE>(i, s.columns[i] & job.full_rows));
+                hash = shares.iter().fold(0u64, |h, x| h.wrapping_add(*x));
+                near = node.r - 1 <= reach.radius;
+                if node.r - 1 <= reach.radius + 1 {
+                    for t in (0..N).filter(|t| node.targets >> t & 1 == 1) {
+                        let less = hash.wrapping_sub(shares[t]);
+                        let own = reach.has(&reach.less_one, less);
+                        let mut set = (own as u8) << t;
+                        if !near {
+                            for u in (0..N).filter(|&u| u != t) {
+                                let pair = less.wrapping_sub(shares[u]);
+                                set |= (reach.has(&reach.less_two, pair) as u8) << u;
+                            }
+                            next_targets[t] = set;
+                        }
+                        if set == 0 {
+                            targets &= !(1 << t);
+                        }
+                    }
+                }
+            }
+        }
+        let asleep = node.sleep | node.cancel;
+        let others = others::<N>(&s.matched);
+        let idle = others_unmatched::<N>(&s.matched);
+        for (g, gate) in job.gates.iter().enumerate() {
+            let t = gate.target;
+            let price = job.prices[gate.kind];
+            if price > node.budget || MAX && (asleep >> g & 1 == 1 || targets >> t & 1 == 0) {
+                continue;
+            }
+            let product = product(&s.columns, gate);
+            if MAX && product == 0 {
+                continue;
+            }
+            let column = s.columns[t & 7] ^ product;
+            let matched = if t < N { job.matches::<N, FREE>(t, column) } else { 0 };
+            let outputs = N as u32 - ones(others[t] | matched);
+            let wires = idle[t] + (t < N && matched == 0) as u32;
+            let wrong = outputs.max(wires) as usize;
+            if wrong > r_eff - 1 {
+                continue;
+            }
+            let mut child = *s;
+            child.columns[t & 7] = column;
+            if t < N {
+                child.matched[t] = matched;
+            }
+            if MAX && near {
+                let reach = self.reach.as_ref().unwrap();
+                let rows = job.full_rows;
+                let hash = hash
+                    .wrapping_sub(share::<FREE>(t, s.columns[t] & rows))
+                    .wrapping_add(share::<FREE>(t, child.columns[t] & rows));
+                if !reach.has(&reach.whole, hash) {
+                    continue;
+                }
+            }
+            job.schedule(&mut child, gate);
+            if child.depth > self.best_depth {
+                continue;
+            }
+            let mut next = Node { r: node.r - 1, budget: node.budget - price, targets: 0xFF, ..node };
+            if self.use_span && gate.kind == 2 {
+                let rho = node.rho.saturating_sub(1);
+                if self.effective::<MAX>(next.r, next.budget, rho).map_or(true, |e| wrong > e) {
+                    continue;
+                }
+                next.rho = self.span_gap::<N>(&child.columns);
+            }
+            if self.effective::<MAX>(next.r, next.budget, next.rho).map_or(true, |e| wrong > e) {
+                continue;
+            }
+            if MAX {
+                let below = (1u64 << g) - 1;
+                next.sleep = node.sleep & self.disjoint[g] | self.disjoint[g] & below;
+                next.cancel = node.cancel & self.commute[g] | 1 << g;
+                next.targets = next_targets[t];
+            }
+            self.path[len] = gate.byte;
+            self.search::<N, FREE, MAX>(len + 1, &child, next);
+        }
+    }
+
+    /// Fills the reach filters if runs of this many gates gain by it.
+    fn widen_reach<const N: usize, const FREE: bool>(&mut self, gates: usize) {
+        for &(from, radius) in self.reach_plan {
+            if gates >= from && self.reach.as_ref().map_or(true, |r| r.radius < radius) {
+                let [a, b, c, d] = self.job.target;
+                let target = [a, b, c, d, 0, 0xFFFF, 0, 0].map(|column| column & self.job.full_rows);
+                let mut reach = Reach::new(radius);
+                reach.fill::<N, FREE>(&self.job.gates, &target, radius);
+                self.reach = Some(reach);
+            }
+        }
+    }
+
+    fn run<const N: usize, const FREE: bool, const MAX: bool>(&mut self, gates: usize, cost: u32) -> bool {
+        let job = self.job;
+        let start = job.start::<N, FREE>();
+        self.best = None;
+        self.best_depth = job.depth_limit;
+        self.allowance = cost;
+        let rho = if self.use_span { self.span_gap::<N>(&start.columns) } else { 0 };
+        if self.effective::<MAX>(gates, cost, rho).is_none() {
+            return false;
+        }
+        if MAX && job.m == 0 && job.full_rows != 0 {
+            self.widen_reach::<N, FREE>(gates);
+        }
+        let node = Node { r: gates, budget: cost, rho, sleep: 0, cancel: 0, targets: 0xFF };
+        self.search::<N, FREE, MAX>(0, &start, node);
+        self.best.is_some()
+    }
+
+    /// E1's table for lists of exactly this cost, or of at most this cost.
+    fn fill_possible(&mut self, exactly: bool) {
+        let p = self.job.prices.map(|p| p as usize);
+        self.possible = vec![vec![0; MAX_COST + 1]; 13];
+        for r in 0..=12 {
+            for t in 0..=r {
+                for a in 0..=r - t {
+                    self.possible[r][a * p[0] + (r - t - a) * p[1] + t * p[2]] |= 1 << t;
+                }
+            }
+            for budget in (1..=MAX_COST).filter(|_| !exactly) {
+                self.possible[r][budget] |= self.possible[r][budget - 1];
+            }
+        }
+    }
+}
+
+fn sets_of(gates: &[Gate], related: impl Fn(&Gate, &Gate) -> bool) -> Vec<u64> {
+    let set = |g: &Gate| {
+        gates.iter().enumerate().filter(|(_, h)| related(g, h)).fold(0, |set, (i, _)| set | 1 << i)
+    };
+    gates.iter().map(set).collect()
+}
+
+fn solve_deep<const N: usize, const FREE: bool, const MAX: bool>(
+    job: &Job,
+    reach_plan: &[(usize, usize)],
+) -> (Option<Key>, u64) {
+    let [not, cnot, toffoli] = job.prices;
+    let equal = not == cnot && cnot == toffoli;
+    let cheap = not.min(cnot);
+    let controls = |g: &Gate| g.wires & !(1 << g.target);
+    let mut deep = Deep {
+        job,
+        use_span: toffoli > cheap,
+        cheap,
+        first_only: !equal,
+        possible: Vec::new(),
+        commute: sets_of(&job.gates, |g, h| {
+            controls(g) >> h.target & 1 == 0 && controls(h) >> g.target & 1 == 0
+        }),
+        disjoint: sets_of(&job.gates, |g, h| g.wires & h.wires == 0),
+        reach: None,
+        reach_plan,
+        path: [0; 12],
+        best: None,
+        best_depth: 0,
+        allowance: 0,
+        nodes: 0,
+    };
+    let limit = job.cost_limit.min(MAX_COST as u32);
+    let (mut least_gates, mut cap) = (0, limit);
+    if equal || !MAX {
+        // F: the least number of gates within all limits. For equal prices, the answer.
+        deep.fill_possible(false);
+        let Some(gates) = (0..=job.gate_limit).find(|&g| deep.run::<N, FREE, MAX>(g, limit)) else {
+            return (None, deep.nodes);
+        };
+        if equal {
+            return (deep.best, deep.nodes);
+        }
+        least_gates = gates;
+        cap = deep.best.as_ref().unwrap().0;
+    }
+    deep.first_only = false;
+    deep.fill_possible(true);
+    for cost in 0..=cap {
+        let sums = |g: usize| deep.possible[g][cost as usize] != 0;
+        if !(0..=job.gate_limit).any(sums) {
+            continue;
+        }
+        for gates in least_gates..=job.gate_limit {
+            if deep.run::<N, FREE, MAX>(gates, cost) {
+                return (deep.best, deep.nodes);
+            }
+        }
+    }
+    (None, deep.nodes)
+}
+
+// ---------------------------------------------------------------------------- the line
+
+fn solve<const N: usize, const FREE: bool>(job: &Job, options: &Options) -> (Option<Key>, u64) {
+    match options.rules {
+        Rules::Base => solve_base::<N, FREE>(job),
+        Rules::Full => solve_deep::<N, FREE, false>(job, &[]),
+        Rules::Max => solve_deep::<N, FREE, true>(job, &options.reach_plan),
+    }
+}
+
+fn answer(bytes: &[u8], options: &Options) -> (String, u64) {
+    let number = refusal(bytes);
+    if number != 0 {
+        return (format!("refused {number}"), 0);
+    }
+    let job = job_of(bytes);
+    let (best, nodes) = match (job.n, job.free) {
+        (4, _) if job.m == 0 && odd(&job) => (None, 0),
+        (3, false) => solve::<3, false>(&job, options),
+        (3, true) => solve::<3, true>(&job, options),
+        (_, false) => solve::<4, false>(&job, options),
+        (_, true) => solve::<4, true>(&job, options),
+    };
+    let line = match best {
+        None => "refused 14".to_string(),
+        Some((cost, count, depth, layout, list)) => {
+            let mut record = vec![(job.n << 5 | job.m << 3) as u8, layout, count as u8];
+            record.extend(list);
+            let hex: String = record.iter().map(|byte| format!("{byte:02X}")).collect();
+            format!("found {count} {cost} {depth} {hex}")
+        }
+    };
+    (line, nodes)
+}
+
+fn options_of(mut args: impl Iterator<Item = String>) -> Option<Options> {
+    let reach_plan = REACH_PLAN.to_vec();
+    let mut options = Options { rules: Rules::Base, stats: false, reach_plan };
+    while let Some(arg) = args.next() {
+        match arg.as_str() {
+            "--stats" => options.stats = true,
+            "--rules" => {
+                options.rules = match args.next()?.as_str() {
+                    "base" => Rules::Base,
+                    "full" => Rules::Full,
+                    "max" => Rules::Max,
+                    _ => return None,
+                }
+            }
+            "--reach" => {
+                let value = args.next()?;
+                let (from, radius) = value.split_once(',')?;
+                options.reach_plan = vec![(from.parse().ok()?, radius.parse().ok()?)];
+            }
+            _ => return None,
+        }
+    }
+    Some(options)
+}
+
+fn main() {
+    let Some(options) = options_of(std::env::args().skip(1)) else {
+        eprintln!("usage: plain [--rules base|full|max] [--stats] [--reach FROM,RADIUS] < job");
+        std::process::exit(2);
+    };
+    let mut bytes = Vec::new();
+    let _ = std::io::stdin().lock().take(29).read_to_end(&mut bytes);
+    let (line, nodes) = answer(&bytes, &options);
+    println!("{line}");
+    if options.stats {
+        eprintln!("nodes {nodes}");
+    }
+}

@@ -1,0 +1,562 @@
+#!/usr/bin/env python3
+"""Writes the calls of the search's test program and the lines that it must print.
+
+usage: search_vectors.py DATA_FILE STDOUT_FILE [--bench FOLDER]
+
+A call is `search JOBHEX RR`: the job in upper-case hexadecimal (`-` for an empty job) and
+the length of the answer buffer. The test program fills byte i of the buffer with
+(0xA0 + i) mod 256, calls the search and prints `refused N BUFFERHEX` or
+`found L G C D BUFFERHEX`, the buffer whole, `-` for an empty one. Headings start with `#`
+and are echoed.
+
+Expected values come from bench/brute.rs (every list of gates, every layout; no skipping), or
+where that takes too long from document 01's theorem on odd tables over four wires, or from
+bench/plain.rs; each call's source is counted on standard error. Both are compiled with
+`rustc -O` into a temporary folder.
+"""
+import argparse
+import os
+import subprocess
+import sys
+import tempfile
+
+HERE = os.path.dirname(os.path.abspath(__file__))
+SAMPLE_ROWS = [0, 2, 1, 3, 4, 6, 5, 7]
+ODD_TABLE = list(range(7)) + [15] + list(range(8, 15)) + [7]  # rows 7 and 15 exchanged
+EXCHANGE_3_7 = [0, 1, 2, 7, 4, 5, 6, 3]
+PROST = [int(digit, 16) for digit in "048F15E927ACBD63"]
+GIFT = [int(digit, 16) for digit in "1A4C6F392DB7508E"]
+NO_LIMIT = 0xFFFF
+
+
+# Jobs found by tools/mutants.py that show a wrong order of keys or a parity cut too wide.
+PICKED = """
+6402FFFF016B01010102FE010020000040001040
+6C03FFFFFFFF0505050103042040330044504400
+6402FFFFFFFF0402040104032210000044400000
+8402003C0053FE00FFFF010110881140200011800000001000110000
+6402FFFFFFFF0000000401016440104411114055
+6403FFFFFFFF0101050204047071757677747273
+6C02FFFF00080101010303044044404444404440
+84020001FFFF00010002040100114400000010000000000000000080
+8402FFFFFFFF010105010107E031B240E4D5B200C8881011CCC81000
+8002000A0003010105010203F2F300F1F6F7F4F5FA00F8F9FE0000FD
+8402000AFFFF0505040402030020C8118066007500C4EABA7380F9B8
+8001FFFFFFFF020404010202F0606633E4C480E2D899DCDD30550099
+""".split()
+# Random jobs of bench/compare.py, every second one again with tightened limits.
+RANDOM = """
+8402FFFFFFFF030502FFFEFFB0D1E23344A8C4AAB864AAD5DCA866D9
+64040000FFFF0000000204037076727477007173
+6C02FFFFFFFFFE01FE0402020030737200665500
+6403FFFFFFFFFF6464FF01FE3071627574737633
+6403012C0100FF6464FF01FE3071627574737633
+80030001FFFF000000010301F0F1F8F9F4F5FCFDF2F3FAFBF6F7FEFF
+6802FFFFFFFF0200020403042031000040001051
+80030006000301010503010370B1E2114466A02030E8222277002054
+80030001000301010503010370B1E2114466A02030E8222277002054
+8403022CFFFFFF6401FE0202F0F1F2F3F6F7F4F5F8F9FAFBFEFFFCFD
+84030063FFFFFF6401FE0202F0F1F2F3F6F7F4F5F8F9FAFBFEFFFCFD
+8C02FFFFFFFF010101010403F0F3F4F7F8FBFCFFF1F6F5F2F9FEFDFA
+8C020001FFFF010101010403F0F3F4F7F8FBFCFFF1F6F5F2F9FEFDFA
+6004FFFF00030101050101022211401022335530
+6004000100030101050101022211401022335530
+6C03FFFF000B0105040101046450200066225511
+6C010000000B0105040101046450200066225511
+6C03000200130000010101077270767473757771
+6C02000200080000010101077270767473757771
+6403000B00040101050101017071720074757376
+6401000B00020101050101017071720074757376
+6C030003FFFF000100FE02FF7270737176747775
+8C02FFFFFFFF000100FFFE01A2A2D091C43390F522BBD8F92299ECB9
+8C02FFFFFFFF010101030104F0F1F2F3F6F7F4F5FAFBF8F9FCFDFEFF
+8C01FFFF0001010101030104F0F1F2F3F6F7F4F5FAFBF8F9FCFDFEFF
+8802FFFF000901010501010700200040000000000011000000000010
+88020001000101010501010700200040000000000011000000000010
+8403FFFF0006030104040102F0F4F1F5FAFCF9FFF2F6F3F7F8FEFBFD
+840300080004030104040102F0F4F1F5FAFCF9FFF2F6F3F7F8FEFBFD
+84020008FFFF040305040101F0F1F8F9F3F2FAFBF4F5FCFDF7F6FEFF
+84020008FFFF040305040101F0F1F8F9F3F2FAFBF4F5FCFDF7F6FEFF
+6003FFFFFFFF0304000102FE7071727764743376
+6003FFFF00FF0304000102FE7071727764743376
+8403FFFFFFFF000002010107F2FFF6FBD1FAF7FEF0DDF4F9F1F8F5FC
+84030001FFFF000002010107F2FFF6FBD1FAF7FEF0DDF4F9F1F8F5FC
+8C020000FFFF00000001FFFEF0F9F2FBF4FDF6FFF8F1FAF3FCF5FEF7
+8402015BFFFF6401FFFE01FEF0F1F3F2F4F5F7F6F8F9FBFAFDFCFEFF
+6403FFFFFFFF0000000102027170406220554454
+8402FFFFFFFF020501040303F0F7F2F5F6F1F4F3F8FFFAFDFEF9FCFB
+6403FFFF023602030201FF017071727375777674
+64030007023602030201FF017071727375777674
+6004FFFFFFFF0101010204017677747172737075
+6004000200020101010204017677747172737075
+60040006FFFF030300FF02FF4032403154642262
+60040003FFFF030300FF02FF4032403154642262
+6403FFFF00150101050101077071767774727375
+6403FFFF000E0101050101077071767774727375
+8003FFFFFFFFFF6400010302F0FBF2F9F4FDF6FFFAF1F8F3FCF5FEF7
+8003FFFF0007FF6400010302F0FBF2F9F4FDF6FFFAF1F8F3FCF5FEF7
+6004FFFFFFFF0001000101047475737670777271
+8403FFFF0006010105020204F5FDF7FFF1F9F3FBFCF4FEF6F8F0FAF2
+88020002FFFF00000103020400440000000040000000000088000020
+6403000AFFFF00030202FEFE2022202222202022
+8C0200020003000001020102F0F9F3FAF4FDF7FEF8F1FBF2FCF5FFF6
+6403FFFFFFFF0101050404012030662271323172
+8802FFFFFFFF000000040401000000F3F4F5FEFFF8F9FA00FDFCF700
+8C02FFFFFFFFFEFFFE030203E4E2E4E2ECEAECEAE0E6E0E6E8EEE8EE
+8C02FFFFFFFF050200FF02FEF4FDF0F8F5FCF1F9F6FFF2FAF7FEF3FB
+8C01FFFFFFFF050200FF02FEF4FDF0F8F5FCF1F9F6FFF2FAF7FEF3FB
+6003FFFF00040000000201045051515055545455
+6803000DFFFF0505020101020070710000747500
+880201E0012D64FF000102FFB8B9BBBAB8B9BBBAB0B1B2B3B0B1B2B3
+88020063012D64FF000102FFB8B9BBBAB8B9BBBAB0B1B2B3B0B1B2B3
+6004FFFF03B8000403FEFE027073727100760075
+600100060100000403FEFE027073727100760075
+6403000CFFFF0101050301025033717077665574
+6403000600060101050301025033717077665574
+64040000FFFF0000000101073344642231623310
+640402C0FFFFFFFF000101077172737075777476
+6404018FFFFF0001640304047071747776727375
+6404012CFFFF0001640304047071747776727375
+6404FFFF00050502010203016466626660626460
+6404FFFF00050502010203016466626660626460
+""".split()
+
+
+def job(values, limit, m=0, free=0, cost=NO_LIMIT, depth=NO_LIMIT, prices=(1, 1, 5),
+        durations=(1, 1, 7), masks=None):
+    """A job's bytes; value bits outside the care masks are dropped."""
+    n = 3 if len(values) == 8 else 4
+    masks = masks or [(1 << n) - 1] * len(values)
+    head = [n << 5 | m << 3 | free << 2, limit, cost >> 8, cost & 255, depth >> 8, depth & 255]
+    rows = [mask << 4 | value & mask for mask, value in zip(masks, values)]
+    return bytes(head + list(prices) + list(durations) + rows)
+
+
+def after(gates, n, m=0):
+    """The data wires after this list of gate bytes, for every row."""
+    values = []
+    for gate in gates:
+        target, controls = gate >> 5, gate & 31
+        assert target < n + m and controls < 1 << n + m and not controls >> target & 1
+        assert bin(controls).count("1") <= 2
+    for value in range(1 << n):
+        for gate in gates:
+            if value & gate & 31 == gate & 31:
+                value ^= 1 << (gate >> 5)
+        values.append(value & ((1 << n) - 1))
+    return values
+
+
+def placed(values, wires):
+    """Output j read from wire wires[j]."""
+    return [sum((value >> wire & 1) << j for j, wire in enumerate(wires)) for value in values]
+
+
+def changed(record, **places):
+    """The bytes with some replaced: b0=0x70 sets byte 0."""
+    record = bytearray(record)
+    for place, value in places.items():
+        record[int(place[1:])] = value
+    return bytes(record)
+
+
+class Vectors:
+    def __init__(self, brute, plain):
+        self.brute, self.plain = brute, plain
+        self.calls, self.lines, self.known, self.sources = [], [], {}, {}
+
+    def heading(self, text):
+        self.calls.append("# " + text)
+        self.lines.append("# " + text)
+
+    def solve(self, record, source):
+        """The line of `main` for this job: `refused N`, or `found G C D RECORDHEX`."""
+        if (record, source) not in self.known:
+            if source == "theorem":
+                line = "refused 14"
+            else:
+                command = [self.brute] if source == "brute" else [self.plain, "--rules", "full"]
+                run = subprocess.run(command, input=record, stdout=subprocess.PIPE, check=True)
+                line = run.stdout.decode().strip()
+            self.known[record, source] = line
+        return self.known[record, source]
+
+    def search(self, record, room=15, source="brute"):
+        words = self.solve(record, source).split()
+        if words[0] == "refused" and words[1] != "14":
+            words = words[:2]
+        elif room < 15:
+            words = ["refused", "13"]
+        buffer = bytes((0xA0 + i) % 256 for i in range(room))
+        if words[0] == "found":
+            circuit = bytes.fromhex(words[4])
+            buffer = circuit + buffer[len(circuit):]
+            words = ["found", str(len(circuit))] + words[1:4]
+        self.calls.append(f"search {record.hex().upper() or '-'} {room:02X}")
+        self.lines.append(" ".join(words + [buffer.hex().upper() or "-"]))
+        self.sources[source] = self.sources.get(source, 0) + 1
+
+
+def samples(v):
+    v.heading("document 01's samples: row list, limits 3 and 2, free layout")
+    v.search(job(SAMPLE_ROWS, 3))
+    v.search(job(SAMPLE_ROWS, 2))
+    v.search(job(SAMPLE_ROWS, 3, free=1))
+    v.search(job(SAMPLE_ROWS, 0, free=1))
+    v.heading("exchange of rows 3 and 7, limit 1: an odd 3-bit table is found")
+    v.search(job(EXCHANGE_3_7, 1))
+    v.heading("exchange of rows 7 and 15, n = 4, m = 0: infeasible at every limit")
+    for limit in range(13):
+        v.search(job(ODD_TABLE, limit), source="brute" if limit <= 4 else "theorem")
+    v.heading("the same with free layout, with other prices, with all limits 0")
+    v.search(job(ODD_TABLE, 12, free=1), source="theorem")
+    v.search(job(ODD_TABLE, 12, prices=(0, 0, 0)), source="theorem")
+    v.search(job(ODD_TABLE, 12, cost=0, depth=0), source="theorem")
+    v.heading("other odd 4-bit tables, full care masks, m = 0")
+    inverse = [int(digit, 16) for digit in "062493D51EC78ABF"]
+    v.search(job(inverse, 12), source="theorem")
+    v.search(job(inverse, 12, free=1), source="theorem")
+    v.search(job([1, 0] + list(range(2, 16)), 12), source="theorem")
+    v.heading("no bit wanted, n = 3, limit 0; the same with free layout, n = 4, ancilla")
+    for n, m, free in [(3, 0, 0), (3, 0, 1), (4, 0, 0), (4, 0, 1), (3, 1, 0), (4, 1, 1)]:
+        v.search(job([0] * (1 << n), 0, m=m, free=free, masks=[0] * (1 << n)))
+    v.heading("no bit wanted, limit 12")
+    v.search(job([0] * 8, 12, masks=[0] * 8), source="full")
+    v.search(job([0] * 16, 12, m=1, free=1, masks=[0] * 16), source="full")
+    v.heading("n = 3, m = 1, every row wanting 0, limits 2, 1, 0")
+    for limit in (2, 1, 0):
+        v.search(job([0] * 8, limit, m=1))
+
+
+def refusals(v):
+    sample, wide = job(SAMPLE_ROWS, 3), job(list(range(16)), 1)
+    v.heading("1: lengths 0, 1, 12, 19, 21, 27, 29, 40")
+    for length in (0, 1, 12, 19, 21, 27, 29, 40):
+        v.search((wide * 2)[:length])
+    v.heading("1 before 2 and all others: 19 and 29 bytes of FF")
+    v.search(b"\xff" * 19)
+    v.search(b"\xff" * 29)
+    v.heading("2: n = 4, 0, 7, 2, 5 with 20 bytes; n = 3, 0, 6 with 28")
+    for first in (0x80, 0x00, 0xE0, 0x40, 0xA0):
+        v.search(changed(sample, b0=first))
+    for first in (0x60, 0x00, 0xC0):
+        v.search(changed(wide, b0=first))
+    v.heading("2 before 3, and before all others")
+    v.search(changed(sample, b0=0x93))
+    v.search(b"\xff" * 20)
+    v.search(b"\xff" * 28)
+    v.heading("3: m = 2, m = 3, either low bit, both")
+    for first in (0x70, 0x78, 0x61, 0x62, 0x63, 0x74):
+        v.search(changed(sample, b0=first))
+    for first in (0x90, 0x98, 0x81, 0x8A):
+        v.search(changed(wide, b0=first))
+    v.heading("3 before 4 and 6")
+    v.search(changed(sample, b0=0x70, b1=13, b12=0x80))
+    v.heading("4: gate limits 13 and 255")
+    v.search(changed(sample, b1=13))
+    v.search(changed(wide, b1=255))
+    v.heading("4 before 5 and 6")
+    v.search(changed(sample, b1=13, b9=0, b19=0x01))
+    v.heading("5: each duration 0, all of them")
+    for place in ("b9", "b10", "b11"):
+        v.search(changed(sample, **{place: 0}))
+        v.search(changed(wide, **{place: 0}))
+    v.search(changed(sample, b9=0, b10=0, b11=0))
+    v.heading("5 before 6")
+    v.search(changed(sample, b11=0, b12=0x01))
+    v.heading("6: value outside the care mask, bit 3 of mask or value with n = 3; first and last row")
+    for row in (0x01, 0x08, 0x80, 0x88, 0xF0, 0x78, 0x34, 0x6F):
+        v.search(changed(sample, b12=row))
+        v.search(changed(sample, b19=row))
+    for row in (0x01, 0x78, 0xE1, 0x0F):
+        v.search(changed(wide, b12=row))
+        v.search(changed(wide, b27=row))
+    v.heading("bit 3 is lawful with n = 4; a wholly unwanted row is lawful")
+    v.search(changed(wide, b12=0x80))
+    v.search(changed(wide, b27=0x00))
+
+
+def buffers(v):
+    sample, swap = job(SAMPLE_ROWS, 3), job(EXCHANGE_3_7, 1)
+    none, broken = job(SAMPLE_ROWS, 2), changed(job(SAMPLE_ROWS, 3), b1=13)
+    v.heading("13: buffers of 0, 1, 6 and 14 bytes, though the answer would fit in 6")
+    for room in (0, 1, 6, 14):
+        v.search(sample, room)
+    v.heading("buffers of 15, 16, 64 and 255 bytes: later bytes keep")
+    for room in (15, 16, 64, 255):
+        v.search(sample, room)
+    v.search(swap, 64)
+    v.search(job(list(range(8)), 0), 15)
+    v.search(job(list(range(8)), 0), 0)
+    v.heading("the job's numbers before 13")
+    v.search(b"", 0)
+    v.search(b"", 14)
+    v.search(broken, 0)
+    v.search(broken, 14)
+    v.search(changed(sample, b12=0x01), 14)
+    v.heading("13 before 14")
+    v.search(none, 0)
+    v.search(none, 14)
+    v.search(job(ODD_TABLE, 12), 14, source="theorem")
+    v.search(job(ODD_TABLE, 12), 0, source="theorem")
+    v.heading("refusals keep every byte of longer buffers")
+    v.search(none, 64)
+    v.search(broken, 64)
+    v.search(b"", 16)
+    v.search(job(ODD_TABLE, 12), 64, source="theorem")
+
+
+def limits(v):
+    v.heading("limits met exactly and missed by one: exchange 3/7, gates 1 and 0, cost 5 and 4, depth 7 and 6")
+    v.search(job(EXCHANGE_3_7, 1, cost=5, depth=7))
+    v.search(job(EXCHANGE_3_7, 0))
+    v.search(job(EXCHANGE_3_7, 1, cost=4))
+    v.search(job(EXCHANGE_3_7, 1, depth=6))
+    v.heading("gates 3 within 3, 4, 5 and 6")
+    for limit in (4, 5, 6):
+        v.search(job(SAMPLE_ROWS, limit))
+    v.heading("cost 3 and 2, depth 3 and 2 for the sample")
+    for cost, depth in ((3, 3), (2, 3), (3, 2), (0, 3), (3, 0)):
+        v.search(job(SAMPLE_ROWS, 4, cost=cost, depth=depth))
+    v.heading("a depth limit that only a dearer list keeps: gate 21, durations 1 255 1")
+    for depth in (255, 254, 4, 3):
+        v.search(job(after([0x21], 3), 4, depth=depth, durations=(1, 255, 1)))
+    v.search(job(after([0x21], 3), 4, cost=11, depth=254, durations=(1, 255, 1)))
+    v.heading("limits above 255, and whose low byte alone would do or would not")
+    doubled = after([0x43, 0x25], 3)
+    for cost, depth in ((510, 510), (509, 510), (510, 509), (0x1FE, NO_LIMIT), (0xFE, NO_LIMIT)):
+        v.search(job(doubled, 3, cost=cost, depth=depth, prices=(255, 255, 255), durations=(255, 255, 255)))
+    v.heading("parallel depth: x xor 3 within depth 1; n = 4, four NOTs; two CNOTs apart and on one wire")
+    v.search(job([x ^ 3 for x in range(8)], 2, depth=1))
+    v.search(job([x ^ 15 for x in range(16)], 4, depth=1))
+    v.search(job([x ^ 15 for x in range(16)], 4, depth=0))
+    v.search(job([x ^ 15 for x in range(16)], 3))
+    v.search(job(after([0x21, 0x62], 4), 3, depth=2))
+    v.search(job(after([0x21, 0x62], 4), 3, depth=1))
+    v.search(job(after([0x21, 0x61], 4), 2, depth=1))
+    v.search(job(after([0x21, 0x48], 4), 2, depth=1))
+    v.heading("cost and depth limit 0")
+    v.search(job(list(range(8)), 3, cost=0, depth=0))
+    v.search(job([x ^ 1 for x in range(8)], 3, cost=0))
+    v.search(job([x ^ 1 for x in range(8)], 3, cost=0, prices=(0, 1, 1)))
+    v.search(job([x ^ 1 for x in range(8)], 3, depth=0))
+
+
+def order(v):
+    cnot = after([0x21], 3)
+    v.heading("a longer list is cheaper: gate 21, prices 0 5 1, limits 0 to 5")
+    for limit in range(6):
+        v.search(job(cnot, limit, prices=(0, 5, 1)))
+    v.heading("the same with a cost limit of 4 and a depth limit of 15")
+    v.search(job(cnot, 3, prices=(0, 5, 1), cost=4))
+    v.search(job(cnot, 4, prices=(0, 5, 1), depth=15))
+    v.heading("a Toffoli dearer than any other list, n = 4 with an ancilla")
+    v.search(job(after([0x43], 3), 5, prices=(1, 1, 255)))
+    v.search(job(after([0x21, 0x41], 4), 3, prices=(9, 2, 1)))
+    v.search(job(after([0x21], 3), 3, m=1, prices=(0, 5, 1)))
+    v.heading("ties of cost decided by gates: NOTs cost 0, then all prices 0")
+    v.search(job([x ^ 1 for x in range(8)], 5, prices=(0, 1, 1)))
+    v.search(job(SAMPLE_ROWS, 5, prices=(0, 0, 0)))
+    v.search(job(list(range(8)), 6, prices=(0, 0, 0)))
+    v.search(job(list(range(16)), 4, prices=(0, 0, 0), free=1))
+    v.search(job(EXCHANGE_3_7, 5, prices=(0, 0, 0)))
+    v.search(job(cnot, 5, prices=(0, 2, 1)))
+    v.search(job(cnot, 4, prices=(0, 0, 0), durations=(1, 255, 1)))
+    v.search(job(cnot, 4, prices=(0, 2, 1), durations=(1, 255, 1)))
+    v.heading("ties of cost and gates decided by depth: unit durations, several orders of one list")
+    v.search(job(after([0x61, 0x41, 0x28], 4), 3, durations=(1, 1, 1)))
+    v.search(job(after([0x41, 0x61, 0x28], 4), 4, durations=(1, 1, 1)))
+    v.search(job(after([0x28, 0x2C, 0x00, 0x04], 4), 4, durations=(1, 2, 7)))
+    v.search(job(after([0x21, 0x41, 0x20], 3), 4, durations=(3, 2, 1)))
+    v.heading("ties decided by the layout, which stands before the bytes")
+    half = [0b001] * 8
+    v.search(job([x & 1 for x in range(8)], 2, free=1, masks=half))
+    v.search(job([x >> 1 & 1 for x in range(8)], 2, free=1, masks=half))
+    v.search(job([x >> 2 & 1 for x in range(8)], 2, free=1, masks=half))
+    v.search(job([(x & 1) ^ 1 for x in range(8)], 2, free=1, masks=half))
+    v.search(job([(x ^ x >> 1) & 1 for x in range(8)], 2, free=1, masks=half))
+    v.search(job([(x ^ x >> 3) & 1 for x in range(16)], 2, free=1, masks=[1] * 16))
+    v.search(job([(x ^ x >> 3) << 3 & 8 for x in range(16)], 2, free=1, masks=[8] * 16))
+    v.search(job(after([0x21, 0x02], 3), 3, free=1))
+    v.heading("ties decided by the gate bytes alone")
+    v.search(job([x ^ 7 for x in range(8)], 3))
+    v.search(job([x ^ 7 for x in range(8)], 5))
+    v.search(job(after([0x41, 0x21], 3), 3))
+    v.search(job(after([0x66, 0x41, 0x20], 4), 3))
+    v.search(job([0] * 8, 3, m=1, masks=[1] + [0] * 7))
+    v.search(job([1] * 8, 2, masks=[1, 0, 0, 0, 0, 0, 1, 0]))
+    v.heading("prices of 0 by kind")
+    for prices in ((0, 1, 5), (1, 0, 5), (1, 1, 0), (0, 0, 1), (0, 1, 0), (1, 0, 0)):
+        v.search(job(after([0x20, 0x41, 0x06], 3), 4, prices=prices))
+    v.heading("durations of 255 and 254")
+    for durations in ((255, 255, 255), (255, 1, 1), (1, 255, 1), (1, 1, 255), (254, 255, 1)):
+        v.search(job(after([0x20, 0x41, 0x06], 3), 4, durations=durations))
+    v.search(job(after([0x43, 0x25, 0x06], 3), 3, durations=(255, 255, 255), prices=(255, 255, 255)))
+
+
+def care(v):
+    v.heading("unwanted rows: row 3 wants 7, row 7 unwanted; row 7 wants 3, row 3 unwanted")
+    masks = [7] * 7 + [0]
+    v.search(job(EXCHANGE_3_7, 1, masks=masks))
+    v.search(job(EXCHANGE_3_7, 0, masks=masks))
+    v.search(job(EXCHANGE_3_7, 1, masks=[7, 7, 7, 0, 7, 7, 7, 7]))
+    v.search(job(list(range(8)), 0, masks=[7, 0, 7, 0, 7, 0, 7, 0]))
+    v.search(job([7] * 8, 3, masks=[0, 0, 0, 0, 0, 0, 7, 0]))
+    v.search(job([7] * 8, 3, masks=[7, 0, 0, 0, 0, 0, 7, 0]))
+    v.heading("unwanted bits: one output, two outputs, scattered")
+    v.search(job(after([0x43], 3), 2, masks=[4] * 8))
+    v.search(job(after([0x43], 3), 2, masks=[3] * 8))
+    v.search(job(after([0x43, 0x21], 3), 3, masks=[6] * 8))
+    v.search(job(after([0x43, 0x21], 3), 3, masks=[7, 6, 5, 4, 3, 2, 1, 0]))
+    v.search(job(after([0x25, 0x40, 0x06], 3), 4, masks=[1, 2, 4, 7, 7, 4, 2, 1]))
+    v.search(job(after([0x66, 0x0C, 0x21], 4), 3, masks=[15, 8, 4, 2, 1, 0, 7, 11, 13, 14, 3, 12, 15, 15, 9, 6]))
+    v.search(job(after([0x66, 0x0C, 0x21], 4), 3, masks=[8] * 16))
+    v.search(job(after([0x66, 0x0C, 0x21], 4), 3, masks=[15] * 8 + [0] * 8))
+    v.search(job(ODD_TABLE, 3, masks=[15] * 15 + [0]))
+    v.search(job(ODD_TABLE, 3, masks=[15] * 15 + [14]))
+    v.search(job(ODD_TABLE, 4, masks=[15] * 7 + [0] + [15] * 7 + [0]))
+    v.search(job(ODD_TABLE, 3, masks=[7] * 16))
+    v.search(job(ODD_TABLE, 3, masks=[8] * 16))
+    v.search(job(ODD_TABLE, 3, free=1, masks=[15] * 15 + [7]))
+    v.heading("values that are no permutation: infeasible at m = 0, whole or in one output")
+    v.search(job([0] * 8, 4))
+    v.search(job([0] * 16, 3))
+    v.search(job([0, 0, 2, 3, 4, 5, 6, 7], 4))
+    v.search(job([x & 7 for x in range(16)], 3, free=1))
+    v.search(job([x & x >> 1 & 1 for x in range(8)], 5, masks=[1] * 8))
+    v.heading("two outputs must not share a wire")
+    for limit in range(4):
+        v.search(job([3 * (x & 1) for x in range(8)], limit, free=1, masks=[3] * 8))
+    v.search(job([3 * (x & 1) for x in range(8)], 2, m=1, free=1, masks=[3] * 8))
+    v.search(job([3 * (x & 1) for x in range(8)], 3, m=1, free=1, masks=[3] * 8))
+
+
+def layouts(v):
+    v.heading("each of the six layouts for n = 3, found with no gate; fixed: not within 0")
+    for wires in ((0, 1, 2), (0, 2, 1), (1, 0, 2), (1, 2, 0), (2, 0, 1), (2, 1, 0)):
+        v.search(job(placed(list(range(8)), wires), 2, free=1))
+        v.search(job(placed(list(range(8)), wires), 0))
+    v.heading("layouts for n = 4")
+    for wires in ((3, 2, 1, 0), (1, 2, 3, 0), (3, 0, 1, 2), (2, 3, 0, 1), (0, 1, 3, 2)):
+        v.search(job(placed(list(range(16)), wires), 2, free=1))
+    v.search(job(placed(list(range(16)), (3, 2, 1, 0)), 3))
+    v.heading("gates and a layout together")
+    v.search(job(placed(after([0x43], 3), (2, 0, 1)), 2, free=1))
+    v.search(job(placed(after([0x43, 0x25], 3), (1, 2, 0)), 3, free=1))
+    v.search(job(placed(after([0x21, 0x4A], 4), (3, 1, 0, 2)), 3, free=1))
+    v.search(job(placed(after([0x63, 0x0C, 0x29], 4), (2, 3, 1, 0)), 3, free=1))
+    v.search(job(placed(after([0x21], 3), (1, 0, 2)), 2, m=1, free=1))
+    v.search(job(placed(after([0x43, 0x66], 4), (3, 0, 2, 1)), 2, m=1, free=1))
+    v.heading("PROST free: 4 gates, not 3; fixed: not within 3, 4, 5")
+    v.search(job(PROST, 4, free=1))
+    v.search(job(PROST, 3, free=1))
+    v.search(job(PROST, 4, free=1, cost=20, depth=28))
+    v.search(job(PROST, 4, free=1, cost=19))
+    v.search(job(PROST, 4, free=1, depth=27))
+    v.search(job(PROST, 4, free=1, prices=(1, 1, 1), durations=(1, 1, 1)))
+    v.search(job(PROST, 3))
+    v.search(job(PROST, 4))
+    v.search(job(PROST, 5))
+    v.heading("GIFT: not within 4 or 5 gates")
+    v.search(job(GIFT, 4, free=1))
+    v.search(job(GIFT, 5))
+
+
+def ancillas(v):
+    v.heading("dirty ancilla, n = 4: exchange of rows 7 and 15, limits 0 to 3")
+    for limit in range(4):
+        v.search(job(ODD_TABLE, limit, m=1))
+    v.search(job(ODD_TABLE, 2, m=1, cost=10, depth=14))
+    v.search(job(ODD_TABLE, 2, m=1, cost=9))
+    v.search(job(ODD_TABLE, 2, m=1, depth=13))
+    v.search(job(ODD_TABLE, 2, m=1, free=1))
+    v.heading("dirty ancilla, n = 3: only bit 0 wanted, 0, limits 2 and 1")
+    v.search(job([0] * 8, 2, m=1, masks=[1] * 8))
+    v.search(job([0] * 8, 1, m=1, masks=[1] * 8))
+    v.heading("an ancilla that isn't needed stays out")
+    v.search(job(SAMPLE_ROWS, 3, m=1))
+    v.search(job(SAMPLE_ROWS, 2, m=1))
+    v.search(job(SAMPLE_ROWS, 3, m=1, free=1))
+    v.search(job(EXCHANGE_3_7, 1, m=1))
+    v.search(job(after([0x43, 0x0C], 4), 2, m=1))
+    v.search(job(list(range(16)), 2, m=1))
+    v.heading("an ancilla that shortens the depth or makes the list cheaper")
+    v.search(job(after([0x41, 0x21, 0x61], 4), 3, m=1, durations=(1, 1, 1)))
+    v.search(job(after([0x43, 0x25], 3), 4, m=1, prices=(1, 1, 5)))
+    v.search(job([x & x >> 1 & 1 for x in range(8)], 3, m=1, masks=[1] * 8))
+    v.search(job([(x & x >> 1 & 1) * 2 for x in range(8)], 3, m=1, masks=[2] * 8))
+    v.search(job([x & x >> 1 & x >> 2 & 1 for x in range(16)], 3, m=1, masks=[1] * 16))
+    v.search(job([(x & x >> 1 & 1) << 3 for x in range(16)], 3, m=1, masks=[8] * 16))
+    v.heading("an ancilla is no data wire: a layout never names it")
+    v.search(job([0] * 8, 1, m=1, free=1, masks=[4] * 8))
+    v.search(job([0] * 8, 2, m=1, free=1, masks=[4] * 8))
+    v.search(job([0] * 16, 1, m=1, free=1, masks=[1] * 16))
+    v.search(job([0] * 16, 2, m=1, free=1, masks=[1] * 16))
+
+
+def small_tables(v):
+    v.heading("3-bit tables of 1 to 6 gates, even and odd, prices 1 1 1 and 1 1 5")
+    lists = ([0x06], [0x43, 0x25], [0x43, 0x20, 0x06], [0x25, 0x43, 0x06, 0x41],
+             [0x06, 0x21, 0x43, 0x02, 0x24], [0x43, 0x25, 0x06, 0x43, 0x20, 0x02])
+    for gates in lists:
+        for prices in ((1, 1, 1), (1, 1, 5)):
+            v.search(job(after(gates, 3), min(len(gates) + 1, 6), prices=prices))
+            v.search(job(after(gates, 3), len(gates) - 1, prices=prices))
+    v.heading("the same with free layout and unit durations")
+    for gates in lists[:5]:
+        v.search(job(after(gates, 3), len(gates), free=1, prices=(2, 1, 3), durations=(1, 1, 1)))
+    v.heading("4-bit tables of 1 to 4 gates, and one more wire")
+    for gates in ([0x60], [0x66, 0x0C], [0x43, 0x2C, 0x61], [0x0A, 0x49, 0x21, 0x60]):
+        v.search(job(after(gates, 4), len(gates)))
+        v.search(job(after(gates, 4), len(gates) - 1))
+        v.search(job(after(gates, 4), min(len(gates), 3), m=1, prices=(3, 2, 1)))
+    v.heading("five gates on four wires; three gates with a dirty ancilla on five")
+    five = after([0x0A, 0x49, 0x21, 0x66, 0x2C], 4)
+    v.search(job(five, 5))
+    v.search(job(five, 4))
+    v.search(job(five, 5, cost=20))
+    v.search(job(after([0x83, 0x74, 0x0C], 4, m=1), 3, m=1))
+    v.search(job(after([0x83, 0x74, 0x30], 4, m=1), 3, m=1, free=1, prices=(1, 2, 3)))
+    v.search(job(after([0x63, 0x4A, 0x28], 3, m=1), 3, m=1))
+    v.heading("every gate of three wires alone, and the first, the last and some others of four and five")
+    for gate in (0x00, 0x02, 0x04, 0x06, 0x20, 0x21, 0x24, 0x25, 0x40, 0x41, 0x42, 0x43):
+        v.search(job(after([gate], 3), 1))
+    for gate in (0x00, 0x0C, 0x28, 0x4A, 0x60, 0x66):
+        v.search(job(after([gate], 4), 1))
+        v.search(job(after([gate], 4), 1, m=1))
+
+
+def random_jobs(v):
+    v.heading("jobs that show a wrong order of keys or a parity cut too wide")
+    for record in PICKED:
+        v.search(bytes.fromhex(record))
+    v.heading("random jobs, every second one again with limits at or one below its measures")
+    for record in RANDOM:
+        v.search(bytes.fromhex(record))
+
+
+def main():
+    parser = argparse.ArgumentParser()
+    parser.add_argument("data")
+    parser.add_argument("stdout")
+    parser.add_argument("--bench", default=os.path.join(os.path.dirname(HERE), "bench"))
+    args = parser.parse_args()
+    with tempfile.TemporaryDirectory() as folder:
+        programs = []
+        for name in ("brute", "plain"):
+            programs.append(os.path.join(folder, name))
+            subprocess.run(["rustc", "-O", "-o", programs[-1], os.path.join(args.bench, name + ".rs")], check=True)
+        vectors = Vectors(*programs)
+        for part in (samples, refusals, buffers, limits, order, care, layouts, ancillas, small_tables,
+                     random_jobs):
+            part(vectors)
+    for path, lines in ((args.data, vectors.calls), (args.stdout, vectors.lines)):
+        os.makedirs(os.path.dirname(os.path.abspath(path)), exist_ok=True)
+        with open(path, "w", newline="\n") as file:
+            file.write("\n".join(lines) + "\n")
+    count = sum(vectors.sources.values())
+    print(f"{count} calls, by source: {vectors.sources}", file=sys.stderr)
+
+
+if __name__ == "__main__":
+    main()

@@ -1,11 +1,17 @@
 #!/usr/bin/env python3
-"""Compares plain.rs at every rules level with brute.rs on random small jobs.
+"""Runs several searches on the same random small jobs and compares their lines.
 
-usage: compare.py [JOBS] [--seed N] [--deep]
+usage: compare.py [MAIN_BINARY] [--count N] [--seed N] [--deep]
 
-The levels are base, full, max, and max with the reach filters forced on small jobs. Both programs are compiled with `rustc -O` into ../target. With --deep the gate limits are
-larger and the base level is the measure instead of brute.rs. Prints each difference with
-its job, then one line of counts; the exit code is 1 if there was a difference.
+With MAIN_BINARY (the proved program): that program, plain.rs at --rules full, and brute.rs.
+Every second job has a gate limit beyond brute.rs, which sits out. Without: plain.rs at every
+level (base, full, max, and max with the reach filters forced on small jobs) and brute.rs; with
+--deep the gate limits are larger and the base level is the measure instead of brute.rs.
+
+The jobs: 3 and 4 data wires, with and without ancilla, both layouts, care masks of all shapes,
+prices from 0, tight cost and depth limits (also just at the answer's measures, or one below),
+and a few spoiled ones. rustc -O compiles into ../target. Prints each difference with its job,
+then the counts; the exit code is 1 if there was a difference.
 """
 import argparse
 import os
@@ -156,36 +162,60 @@ def tightened(rng, job, found):
     return bytes(job)
 
 
-def main():
-    parser = argparse.ArgumentParser()
-    parser.add_argument("jobs", type=int, nargs="?", default=3000)
-    parser.add_argument("--seed", type=int, default=1)
-    parser.add_argument("--deep", action="store_true")
-    args = parser.parse_args()
-    plain = compile_program("plain")
-    programs = [[plain, "--rules"] + level.split() for level in LEVELS]
-    if not args.deep:
-        programs.insert(0, [compile_program("brute")])
-    rng = random.Random(args.seed)
-    counts, differences, pending = {}, 0, None
-    for _ in range(args.jobs):
-        job = pending or random_job(rng, DEEP_LIMITS if args.deep else LIMITS)
-        if pending is None and rng.random() < 0.05:
+def random_jobs(rng, count, deep):
+    """Job, and whether brute.rs is too slow for it. The answer is sent in: every second job or
+    so that has one comes again with tightened limits."""
+    made = 0
+    while made < count:
+        job = random_job(rng, DEEP_LIMITS if deep(made) else LIMITS)
+        if rng.random() < 0.05:
             job = spoiled(rng, job)
-        expected = line_of(programs[0], job)
-        for program in programs[1:]:
-            line = line_of(program, job)
-            if line != expected:
-                differences += 1
-                print("DIFFERENCE", job.hex().upper(), program, line.strip(), "expected", expected.strip())
-        found = expected.startswith("found")
-        word = expected.split()[0] + " " + (expected.split()[1] + " gates" if found else expected.split()[1])
-        counts[word] = counts.get(word, 0) + 1
-        pending = tightened(rng, job, expected) if pending is None and found and rng.random() < 0.6 else None
-    summary = ", ".join(f"{word}: {counts[word]}" for word in sorted(counts))
-    print(f"seed {args.seed}: {args.jobs} jobs, {len(programs) - 1} programs against {' '.join(programs[0])}, "
-          f"{differences} differences ({summary})")
-    sys.exit(1 if differences else 0)
+        line = yield job, deep(made)
+        made += 1
+        if made < count and line.startswith("found") and rng.random() < 0.6:
+            yield tightened(rng, job, line), deep(made - 1)
+            made += 1
+
+
+def kind_of(line):
+    words = line.split()
+    if words[0] == "found":
+        return f"found {words[1]} gates"
+    return "none" if words[1] == "14" else f"refused {words[1]}"
+
+
+def main():
+    parser = argparse.ArgumentParser(description="Several searches on the same random small jobs.")
+    parser.add_argument("main_binary", nargs="?", help="the proved program; without it, all levels of plain.rs")
+    parser.add_argument("--count", type=int, default=2000, help="number of jobs")
+    parser.add_argument("--seed", type=int, default=1)
+    parser.add_argument("--deep", action="store_true", help="larger gate limits, no brute.rs (without MAIN_BINARY)")
+    args = parser.parse_args()
+    plain, brute = compile_program("plain"), [compile_program("brute")]
+    if args.main_binary:
+        programs = [[os.path.abspath(args.main_binary)], [plain, "--rules", "full"]]
+    else:
+        programs = [[plain, "--rules"] + level.split() for level in LEVELS]
+    jobs = random_jobs(random.Random(args.seed), args.count, lambda i: args.deep or args.main_binary and i % 2 == 1)
+    counts, agree, tried, line = {}, 0, 0, None
+    for _ in range(args.count):
+        job, deep = jobs.send(line)
+        used = programs if deep else [brute] + programs
+        lines = [line_of(program, job).strip() for program in used]
+        line = lines[0]
+        counts[kind_of(line)] = counts.get(kind_of(line), 0) + 1
+        tried += not deep
+        agree += len(set(lines)) == 1
+        if len(set(lines)) > 1:
+            print("DIFFERENCE", job.hex().upper())
+            for program, one in zip(used, lines):
+                print("   ", one, "from", " ".join(program), flush=True)
+    found = sum(count for word, count in counts.items() if word.startswith("found"))
+    print(f"seed {args.seed}: {args.count} jobs, {agree} agree, {args.count - agree} differ; "
+          f"found {found}, none {counts.get('none', 0)}, ill-formed {args.count - found - counts.get('none', 0)}")
+    print(f"programs: {len(programs)} on all jobs, and brute.rs on {tried}")
+    print(", ".join(f"{word}: {counts[word]}" for word in sorted(counts)))
+    sys.exit(0 if agree == args.count else 1)
 
 
 if __name__ == "__main__":

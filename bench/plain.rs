@@ -7,11 +7,14 @@
 //! Rules, named as in search-rules.md:
 //!   base  one depth-first search with cuts: cost above the limit or the best; cost equal to
 //!         the best and more gates; ready times above the depth limit; B1 on outputs.
-//!         An odd table on four wires is infeasible (parity), before any search.
-//!   full  base and I1, I2 (deepening on cost, then on gates), F (feasibility first), B1 on
-//!         wires too, B2 (fix test), B3 (affine span, greatest count of affordable gates).
-//!   max   full and E1 (a run looks only at lists of exactly its cost and its gates; F only
-//!         for equal prices), N1 (one gate that changes nothing), N2, N3, B4, B5 (m = 0).
+//!   full  F (the least number of gates first, and its best list), then I1 and I2 (deepening on
+//!         cost, then on gates, below that list's cost). In a run: cost and gates against the
+//!         run's and the best's, the depth limit, B3 (affine span, greatest number of gates
+//!         that the budget allows), B1 on outputs, and B1 and B2 in one test before each gate.
+//!   max   I1, I2, F only for equal prices, B1 on outputs and wires, B2, B3, E1 (a run looks
+//!         only at lists of exactly its cost and its gates), N1 (one gate that changes
+//!         nothing), N2, N3, B4, B5 (m = 0).
+//! An odd table on four wires is infeasible (parity) at every level, before any search.
 use std::io::Read;
 
 const ONES: usize = 5; // the column of an absent control
@@ -64,6 +67,7 @@ struct Job {
     rows: u16,          // one bit a row
     full_rows: u16,     // the rows whose care mask is full
     gates: Vec<Gate>,   // in rising byte order
+    gates_on: Vec<Vec<Gate>>, // the same, by target
     layouts: Vec<Layout>,
 }
 
@@ -104,6 +108,10 @@ fn gates_of(w: usize) -> Vec<Gate> {
     (0..=255).filter(lawful).map(gate_of).collect()
 }
 
+fn gates_on(target: usize, w: usize) -> Vec<Gate> {
+    gates_of(w).into_iter().filter(|gate| gate.target == target).collect()
+}
+
 fn layouts_of(n: usize, free: bool) -> Vec<Layout> {
     let mut layouts = Vec::new();
     for byte in 0..=255u8 {
@@ -133,6 +141,7 @@ fn job_of(b: &[u8]) -> Job {
         rows: ((1u32 << (1 << n)) - 1) as u16,
         full_rows: 0,
         gates: gates_of(n + m),
+        gates_on: (0..n + m).map(|t| gates_on(t, n + m)).collect(),
         layouts: layouts_of(n, free),
     };
     for (x, &row) in b[12..].iter().enumerate() {
@@ -211,6 +220,26 @@ impl Job {
         r[b] = end;
         r[ONES] = 0;
         state.depth = state.depth.max(end);
+    }
+
+    /// B3: dim(V + T) - dim V on the fully wanted rows, by elimination.
+    fn span_gap<const N: usize>(&self, columns: &Columns) -> u32 {
+        let mut basis = [0u16; 12];
+        let mut dim = 0;
+        let rows = self.full_rows;
+        let mut insert = |column: u16| {
+            let mut x = column & rows;
+            for b in &basis[..dim] {
+                x = x.min(x ^ b);
+            }
+            basis[dim] = x;
+            dim += (x != 0) as usize;
+            (x != 0) as u32
+        };
+        for &column in columns {
+            insert(column);
+        }
+        (0..N).map(|j| insert(self.target[j])).sum()
     }
 }
 
@@ -322,6 +351,163 @@ fn solve_base<const N: usize, const FREE: bool>(job: &Job) -> (Option<Key>, u64)
     (base.best, base.nodes)
 }
 
+// ---------------------------------------------------------------------------- full rules
+
+/// Runs of the deepening: the best list of at most so many gates and at most so much cost.
+struct Full<'a> {
+    job: &'a Job,
+    extra: u32,          // what a Toffoli costs above the least price; 0: B3 is of no use
+    affordable: Vec<u8>, // by budget: the greatest number of gates at the least price
+    path: [u8; 12],
+    best: Option<Key>,
+    best_cost: u32, // the best's, or the run's
+    best_gates: usize,
+    nodes: u64,
+}
+
+impl Full<'_> {
+    /// B3: the greatest number of gates still to come, or None to cut.
+    #[inline(always)]
+    fn to_come(&self, r: usize, budget: u32, rho: u32) -> Option<usize> {
+        let needed = rho * self.extra;
+        if needed > budget {
+            return None;
+        }
+        let gates = r.min(self.affordable[(budget - needed) as usize] as usize);
+        (rho as usize <= gates).then_some(gates)
+    }
+
+    fn offer(&mut self, s: &State, len: usize, cost: u32) {
+        if let Some(layout) = self.job.layout_for(&s.matched) {
+            keep(&mut self.best, (cost, len, s.depth, layout, self.path[..len].to_vec()));
+            let best = self.best.as_ref().unwrap();
+            (self.best_cost, self.best_gates) = (best.0, best.1);
+        }
+    }
+
+    fn search<const N: usize, const FREE: bool>(&mut self, r: usize, len: usize, s: &State, cost: u32, rho: u32) {
+        self.nodes += 1;
+        if cost > self.best_cost || cost == self.best_cost && len > self.best_gates {
+            return;
+        }
+        let unmatched = unmatched_outputs::<N>(&s.matched) as usize;
+        if unmatched == 0 {
+            self.offer(s, len, cost);
+        }
+        let job = self.job;
+        let budget = self.best_cost - cost;
+        let Some(r_eff) = self.to_come(r, budget, rho) else { return };
+        if r_eff == 0 || unmatched > r_eff {
+            return;
+        }
+        // For each kind of gate: the greatest number of gates after it, or -1.
+        let after: [i32; 3] = std::array::from_fn(|kind| {
+            let rho = rho.saturating_sub((kind == 2) as u32);
+            let after = budget.checked_sub(job.prices[kind]).and_then(|b| self.to_come(r - 1, b, rho));
+            after.map_or(-1, |gates| gates as i32)
+        });
+        let others = others::<N>(&s.matched);
+        for (t, gates) in job.gates_on.iter().enumerate() {
+            // B1 and B2 before a gate on wire t: of the outputs that no other data wire matches,
+            // one at most can end on t, and each of the rest takes a gate on another wire. If
+            // that leaves room for this gate only, it gives t an output of these for good.
+            let open = !others[t] & ((1 << N) - 1);
+            let needed = ones(open) as usize;
+            if needed > r_eff || needed == r_eff && t >= N {
+                continue;
+            }
+            let last = needed == r_eff;
+            let wrong = if t < N { (s.columns[t] ^ job.target[t]) & job.care[t] } else { 0 };
+            for gate in gates {
+                let product = product(&s.columns, gate);
+                if !FREE && last && product & job.care[t & 3] != wrong {
+                    continue; // the same test as the one below, sooner
+                }
+                let column = s.columns[t & 7] ^ product;
+                let matched = if t < N { job.matches::<N, FREE>(t, column) } else { 0 };
+                if last && open & matched == 0 {
+                    continue;
+                }
+                let unmatched = ones(open & !matched) as i32;
+                if unmatched > after[gate.kind & 3] {
+                    continue;
+                }
+                let mut child = *s;
+                child.columns[t & 7] = column;
+                if t < N {
+                    child.matched[t] = matched;
+                }
+                job.schedule(&mut child, gate);
+                if child.depth > job.depth_limit {
+                    continue;
+                }
+                let cost = cost + job.prices[gate.kind];
+                let mut rho = rho;
+                if self.extra > 0 && gate.kind == 2 && cost <= self.best_cost {
+                    rho = job.span_gap::<N>(&child.columns);
+                    let gates = self.to_come(r - 1, self.best_cost - cost, rho);
+                    if gates.map_or(true, |gates| unmatched > gates as i32) {
+                        continue;
+                    }
+                }
+                self.path[len] = gate.byte;
+                self.search::<N, FREE>(r - 1, len + 1, &child, cost, rho);
+            }
+        }
+    }
+
+    fn run<const N: usize, const FREE: bool>(&mut self, gates: usize, cost: u32, rho: u32) -> bool {
+        self.best = None;
+        (self.best_cost, self.best_gates) = (cost, gates);
+        self.search::<N, FREE>(gates, 0, &self.job.start::<N, FREE>(), 0, rho);
+        self.best.is_some()
+    }
+}
+
+/// I1: whether some list within the gate limit has this cost, for each cost.
+fn sums(job: &Job) -> Vec<bool> {
+    let mut sums = vec![false; MAX_COST + 1];
+    let [not, cnot, toffoli] = job.prices.map(|p| p as usize);
+    for a in 0..=job.gate_limit {
+        for b in 0..=job.gate_limit - a {
+            for c in 0..=job.gate_limit - a - b {
+                sums[a * not + b * cnot + c * toffoli] = true;
+            }
+        }
+    }
+    sums
+}
+
+fn solve_full<const N: usize, const FREE: bool>(job: &Job) -> (Option<Key>, u64) {
+    let low = *job.prices.iter().min().unwrap() as usize;
+    let mut full = Full {
+        job,
+        extra: job.prices[2] - low as u32,
+        affordable: (0..=MAX_COST).map(|b| if low == 0 { 12 } else { 12.min(b / low) as u8 }).collect(),
+        path: [0; 12],
+        best: None,
+        best_cost: 0,
+        best_gates: 0,
+        nodes: 0,
+    };
+    let rho = if full.extra > 0 { job.span_gap::<N>(&job.start::<N, FREE>().columns) } else { 0 };
+    let limit = job.cost_limit.min(MAX_COST as u32);
+    // F: the least number of gates within all limits, and the best list of so many.
+    let Some(least) = (0..=job.gate_limit).find(|&gates| full.run::<N, FREE>(gates, limit, rho)) else {
+        return (None, full.nodes);
+    };
+    let first = full.best.take().unwrap();
+    // I1, I2: every lower cost, and for each the numbers of gates from the least one on.
+    let sums = sums(job);
+    for cost in (0..first.0).filter(|&cost| sums[cost as usize]) {
+        let Some(most) = full.to_come(job.gate_limit, cost, rho) else { continue };
+        if (least..=most).any(|gates| full.run::<N, FREE>(gates, cost, rho)) {
+            return (full.best, full.nodes);
+        }
+    }
+    (Some(first), full.nodes)
+}
+
 // ---------------------------------------------------------------------------- reach filters
 
 /// B4 and B5: lossy sets of the states within `radius` gates of the target, whole, without
@@ -382,15 +568,13 @@ impl Reach {
     }
 }
 
-// ---------------------------------------------------------------------------- full and max
+// ---------------------------------------------------------------------------- max rules
 
-/// One run of the deepening: the best list of at most (max: exactly) `gates` gates and cost
-/// at most (max: exactly) `cost`.
-struct Deep<'a> {
+/// Runs of the deepening: the best list of exactly `gates` gates and cost exactly `cost` (F:
+/// of cost at most `cost`).
+struct Max<'a> {
     job: &'a Job,
     use_span: bool,       // B3 is of use: a Toffoli costs more than some other gate
-    cheap: u32,           // the lower price of NOT and CNOT
-    first_only: bool,     // F for unequal prices: any list will do
     possible: Vec<Vec<u16>>, // E1: [gates][budget], bit t: some list with t Toffolis
     commute: Vec<u64>,    // N2, N3: by gate, as sets of gates
     disjoint: Vec<u64>,
@@ -399,7 +583,7 @@ struct Deep<'a> {
     path: [u8; 12],
     best: Option<Key>,
     best_depth: u16, // the best's, or the limit's
-    allowance: u32, // the run's cost
+    allowance: u32,  // the run's cost
     nodes: u64,
 }
 
@@ -414,53 +598,11 @@ struct Node {
     targets: u8, // B5: the next gate's targets
 }
 
-impl Deep<'_> {
-    /// B3: dim(V + T) - dim V on the fully wanted rows, by elimination.
-    fn span_gap<const N: usize>(&self, columns: &Columns) -> u32 {
-        let mut basis = [0u16; 12];
-        let mut dim = 0;
-        let rows = self.job.full_rows;
-        let mut insert = |column: u16| {
-            let mut x = column & rows;
-            for b in &basis[..dim] {
-                x = x.min(x ^ b);
-            }
-            basis[dim] = x;
-            dim += (x != 0) as usize;
-            (x != 0) as u32
-        };
-        for &column in columns {
-            insert(column);
-        }
-        (0..N).map(|j| insert(self.job.target[j])).sum()
-    }
-
-    /// B3: the greatest number of gates that the budget allows, or None to cut.
+impl Max<'_> {
+    /// Whether the gates still to come can be this many and cost this much (E1).
     #[inline(always)]
-    fn affordable(&self, r: usize, budget: u32, rho: u32) -> Option<usize> {
-        let toffoli = self.job.prices[2];
-        if self.use_span {
-            if rho as usize > r || rho * toffoli > budget {
-                return None;
-            }
-            if self.cheap > 0 {
-                return Some(r.min((rho + (budget - rho * toffoli) / self.cheap) as usize));
-            }
-        } else if toffoli > 0 {
-            return Some(r.min((budget / toffoli) as usize));
-        }
-        Some(r)
-    }
-
-    /// The greatest count of gates still to come, or None to cut.
-    #[inline(always)]
-    fn effective<const MAX: bool>(&self, r: usize, budget: u32, rho: u32) -> Option<usize> {
-        if MAX {
-            let budget = (budget as usize).min(MAX_COST);
-            if self.possible[r][budget] >> rho == 0 { None } else { Some(r) }
-        } else {
-            self.affordable(r, budget, rho)
-        }
+    fn possible(&self, r: usize, budget: u32, rho: u32) -> bool {
+        self.possible[r][(budget as usize).min(MAX_COST)] >> rho != 0
     }
 
     /// B2, where every gate still to come must be the only write to a wire that is wrong: can
@@ -501,17 +643,16 @@ impl Deep<'_> {
         }
     }
 
-    fn search<const N: usize, const FREE: bool, const MAX: bool>(&mut self, len: usize, s: &State, node: Node) {
+    fn search<const N: usize, const FREE: bool>(&mut self, len: usize, s: &State, node: Node) {
         self.nodes += 1;
-        let wrong = unmatched_outputs::<N>(&s.matched).max(unmatched_wires::<N>(&s.matched));
-        if wrong == 0 && (node.r == 0 || !MAX) {
-            self.offer(s, len, self.allowance - node.budget);
-        }
-        let Some(r_eff) = self.effective::<MAX>(node.r, node.budget, node.rho) else { return };
-        if r_eff == 0 || wrong as usize > r_eff || self.first_only && self.best.is_some() {
+        let wrong = unmatched_outputs::<N>(&s.matched).max(unmatched_wires::<N>(&s.matched)) as usize;
+        if node.r == 0 {
+            if wrong == 0 {
+                self.offer(s, len, self.allowance - node.budget);
+            }
             return;
         }
-        if wrong as usize == r_eff && !self.fixable::<N, FREE>(s, r_eff) {
+        if wrong > node.r || wrong == node.r && !self.fixable::<N, FREE>(s, node.r) {
             return;
         }
         let job = self.job;
@@ -519,27 +660,25 @@ impl Deep<'_> {
         let mut next_targets = [0xFF; 5];
         let mut hash = 0u64;
         let mut near = false;
-        if MAX {
-            if let Some(reach) = &self.reach {
-                let shares: [u64; N] =
-                    std::array::from_fn(|i| share::<FREE>(i, s.columns[i] & job.full_rows));
-                hash = shares.iter().fold(0u64, |h, x| h.wrapping_add(*x));
-                near = node.r - 1 <= reach.radius;
-                if node.r - 1 <= reach.radius + 1 {
-                    for t in (0..N).filter(|t| node.targets >> t & 1 == 1) {
-                        let less = hash.wrapping_sub(shares[t]);
-                        let own = reach.has(&reach.less_one, less);
-                        let mut set = (own as u8) << t;
-                        if !near {
-                            for u in (0..N).filter(|&u| u != t) {
-                                let pair = less.wrapping_sub(shares[u]);
-                                set |= (reach.has(&reach.less_two, pair) as u8) << u;
-                            }
-                            next_targets[t] = set;
+        if let Some(reach) = &self.reach {
+            let shares: [u64; N] =
+                std::array::from_fn(|i| share::<FREE>(i, s.columns[i] & job.full_rows));
+            hash = shares.iter().fold(0u64, |h, x| h.wrapping_add(*x));
+            near = node.r - 1 <= reach.radius;
+            if node.r - 1 <= reach.radius + 1 {
+                for t in (0..N).filter(|t| node.targets >> t & 1 == 1) {
+                    let less = hash.wrapping_sub(shares[t]);
+                    let own = reach.has(&reach.less_one, less);
+                    let mut set = (own as u8) << t;
+                    if !near {
+                        for u in (0..N).filter(|&u| u != t) {
+                            let pair = less.wrapping_sub(shares[u]);
+                            set |= (reach.has(&reach.less_two, pair) as u8) << u;
                         }
-                        if set == 0 {
-                            targets &= !(1 << t);
-                        }
+                        next_targets[t] = set;
+                    }
+                    if set == 0 {
+                        targets &= !(1 << t);
                     }
                 }
             }
@@ -550,11 +689,11 @@ impl Deep<'_> {
         for (g, gate) in job.gates.iter().enumerate() {
             let t = gate.target;
             let price = job.prices[gate.kind];
-            if price > node.budget || MAX && (asleep >> g & 1 == 1 || targets >> t & 1 == 0) {
+            if price > node.budget || asleep >> g & 1 == 1 || targets >> t & 1 == 0 {
                 continue;
             }
             let product = product(&s.columns, gate);
-            if MAX && product == 0 {
+            if product == 0 {
                 continue;
             }
             let column = s.columns[t & 7] ^ product;
@@ -562,7 +701,7 @@ impl Deep<'_> {
             let outputs = N as u32 - ones(others[t] | matched);
             let wires = idle[t] + (t < N && matched == 0) as u32;
             let wrong = outputs.max(wires) as usize;
-            if wrong > r_eff - 1 {
+            if wrong > node.r - 1 {
                 continue;
             }
             let mut child = *s;
@@ -570,7 +709,7 @@ impl Deep<'_> {
             if t < N {
                 child.matched[t] = matched;
             }
-            if MAX && near {
+            if near {
                 let reach = self.reach.as_ref().unwrap();
                 let rows = job.full_rows;
                 let hash = hash
@@ -586,23 +725,20 @@ impl Deep<'_> {
             }
             let mut next = Node { r: node.r - 1, budget: node.budget - price, targets: 0xFF, ..node };
             if self.use_span && gate.kind == 2 {
-                let rho = node.rho.saturating_sub(1);
-                if self.effective::<MAX>(next.r, next.budget, rho).map_or(true, |e| wrong > e) {
+                if !self.possible(next.r, next.budget, node.rho.saturating_sub(1)) {
                     continue;
                 }
-                next.rho = self.span_gap::<N>(&child.columns);
+                next.rho = job.span_gap::<N>(&child.columns);
             }
-            if self.effective::<MAX>(next.r, next.budget, next.rho).map_or(true, |e| wrong > e) {
+            if !self.possible(next.r, next.budget, next.rho) {
                 continue;
             }
-            if MAX {
-                let below = (1u64 << g) - 1;
-                next.sleep = node.sleep & self.disjoint[g] | self.disjoint[g] & below;
-                next.cancel = node.cancel & self.commute[g] | 1 << g;
-                next.targets = next_targets[t];
-            }
+            let below = (1u64 << g) - 1;
+            next.sleep = node.sleep & self.disjoint[g] | self.disjoint[g] & below;
+            next.cancel = node.cancel & self.commute[g] | 1 << g;
+            next.targets = next_targets[t];
             self.path[len] = gate.byte;
-            self.search::<N, FREE, MAX>(len + 1, &child, next);
+            self.search::<N, FREE>(len + 1, &child, next);
         }
     }
 
@@ -619,21 +755,21 @@ impl Deep<'_> {
         }
     }
 
-    fn run<const N: usize, const FREE: bool, const MAX: bool>(&mut self, gates: usize, cost: u32) -> bool {
+    fn run<const N: usize, const FREE: bool>(&mut self, gates: usize, cost: u32) -> bool {
         let job = self.job;
         let start = job.start::<N, FREE>();
         self.best = None;
         self.best_depth = job.depth_limit;
         self.allowance = cost;
-        let rho = if self.use_span { self.span_gap::<N>(&start.columns) } else { 0 };
-        if self.effective::<MAX>(gates, cost, rho).is_none() {
+        let rho = if self.use_span { job.span_gap::<N>(&start.columns) } else { 0 };
+        if !self.possible(gates, cost, rho) {
             return false;
         }
-        if MAX && job.m == 0 && job.full_rows != 0 {
+        if job.m == 0 && job.full_rows != 0 {
             self.widen_reach::<N, FREE>(gates);
         }
         let node = Node { r: gates, budget: cost, rho, sleep: 0, cancel: 0, targets: 0xFF };
-        self.search::<N, FREE, MAX>(0, &start, node);
+        self.search::<N, FREE>(0, &start, node);
         self.best.is_some()
     }
 
@@ -661,19 +797,15 @@ fn sets_of(gates: &[Gate], related: impl Fn(&Gate, &Gate) -> bool) -> Vec<u64> {
     gates.iter().map(set).collect()
 }
 
-fn solve_deep<const N: usize, const FREE: bool, const MAX: bool>(
+fn solve_max<const N: usize, const FREE: bool>(
     job: &Job,
     reach_plan: &[(usize, usize)],
 ) -> (Option<Key>, u64) {
     let [not, cnot, toffoli] = job.prices;
-    let equal = not == cnot && cnot == toffoli;
-    let cheap = not.min(cnot);
     let controls = |g: &Gate| g.wires & !(1 << g.target);
-    let mut deep = Deep {
+    let mut max = Max {
         job,
-        use_span: toffoli > cheap,
-        cheap,
-        first_only: !equal,
+        use_span: toffoli > not.min(cnot),
         possible: Vec::new(),
         commute: sets_of(&job.gates, |g, h| {
             controls(g) >> h.target & 1 == 0 && controls(h) >> g.target & 1 == 0
@@ -688,33 +820,21 @@ fn solve_deep<const N: usize, const FREE: bool, const MAX: bool>(
         nodes: 0,
     };
     let limit = job.cost_limit.min(MAX_COST as u32);
-    let (mut least_gates, mut cap) = (0, limit);
-    if equal || !MAX {
-        // F: the least number of gates within all limits. For equal prices, the answer.
-        deep.fill_possible(false);
-        let Some(gates) = (0..=job.gate_limit).find(|&g| deep.run::<N, FREE, MAX>(g, limit)) else {
-            return (None, deep.nodes);
-        };
-        if equal {
-            return (deep.best, deep.nodes);
-        }
-        least_gates = gates;
-        cap = deep.best.as_ref().unwrap().0;
+    if not == cnot && cnot == toffoli {
+        // F: the least number of gates within all limits is the answer's.
+        max.fill_possible(false);
+        let _ = (0..=job.gate_limit).find(|&gates| max.run::<N, FREE>(gates, limit));
+        return (max.best, max.nodes);
     }
-    deep.first_only = false;
-    deep.fill_possible(true);
-    for cost in 0..=cap {
-        let sums = |g: usize| deep.possible[g][cost as usize] != 0;
-        if !(0..=job.gate_limit).any(sums) {
-            continue;
-        }
-        for gates in least_gates..=job.gate_limit {
-            if deep.run::<N, FREE, MAX>(gates, cost) {
-                return (deep.best, deep.nodes);
+    max.fill_possible(true);
+    for cost in 0..=limit {
+        for gates in 0..=job.gate_limit {
+            if max.possible[gates][cost as usize] != 0 && max.run::<N, FREE>(gates, cost) {
+                return (max.best, max.nodes);
             }
         }
     }
-    (None, deep.nodes)
+    (None, max.nodes)
 }
 
 // ---------------------------------------------------------------------------- the line
@@ -722,8 +842,8 @@ fn solve_deep<const N: usize, const FREE: bool, const MAX: bool>(
 fn solve<const N: usize, const FREE: bool>(job: &Job, options: &Options) -> (Option<Key>, u64) {
     match options.rules {
         Rules::Base => solve_base::<N, FREE>(job),
-        Rules::Full => solve_deep::<N, FREE, false>(job, &[]),
-        Rules::Max => solve_deep::<N, FREE, true>(job, &options.reach_plan),
+        Rules::Full => solve_full::<N, FREE>(job),
+        Rules::Max => solve_max::<N, FREE>(job, &options.reach_plan),
     }
 }
 

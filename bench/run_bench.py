@@ -1,39 +1,48 @@
 #!/usr/bin/env python3
-"""The proved search and the plain one side by side: one table, one run, one core.
+"""The proved search, the plain one and a SAT solver side by side: one table, one run, one core.
 
-usage: run_bench.py MAIN_BINARY [--rules base|full|max] [--sboxes] [--cap SECONDS]
+usage: run_bench.py MAIN_BINARY [--rules base|full|max] [--sboxes] [--no-sat] [--cap SECONDS]
                     [--repeat N] [--only TEXT] [--target FOLDER]
 
-MAIN_BINARY is the proved program (`target/bin/main`), or `-` for plain.rs alone. plain.rs is
-compiled with `rustc -O` into --target (default: a temporary folder). Both programs get the
+MAIN_BINARY is the proved program (`target/bin/main`), or `-` for the others alone. plain.rs is
+compiled with `rustc -O` into --target (default: a temporary folder). All programs get the
 same job on standard input, one after the other, pinned to one core. Seconds are processor
 time (user and system) of the whole process, the least of --repeat runs; a program that takes
 longer than --cap (wall clock) is ended and shows `> CAP`. The exit code is 1 if two answers
 differ.
 
 Job sets: the default has jobs of 3, 4 and 5 wires within reach of the base rules; --sboxes has
-the S-boxes of source document 002 (limit 12), which ask for `--rules full` or `max`.
+the S-boxes of source document 002 (limit 12), with plain.rs at --rules full, a cap of 20
+seconds, and cadical, if it is installed, on the questions of sat.py.
 """
 import argparse
+import collections
 import os
+import shutil
 import subprocess
 import sys
 import tempfile
 import threading
 
+import sat
+
 HERE = os.path.dirname(os.path.abspath(__file__))
 SBOXES = {
-    "RECTANGLE": "65CA1E79B03D8F42",
     "GIFT": "1A4C6F392DB7508E",
     "PRESENT": "C56B90AD3EF84712",
+    "RECTANGLE": "65CA1E79B03D8F42",
     "SKINNY": "C6901A2B385D4E7F",
     "MIDORI": "CAD3EBF789150246",
     "ELEPHANT": "EDB0214F7A859C36",
     "LBLOCK": "E9F0D4AB128376C5",
     "UBLOCK": "749CBAD8FE160325",
-    "linear map M": "093A6F5CD4E7B281",
     "inverse (m=1)": "062493D51EC78ABF",
 }
+UNIT = (1, 1, 1)
+LIMIT = 12
+WIDTH = 27  # of a job's name
+# What a program wrote, its processor seconds, and whether the cap ended it.
+Run = collections.namedtuple("Run", "output seconds capped")
 
 
 def job(values, limit, m=0, free=0, prices=(1, 1, 5), durations=(1, 1, 7), care=15):
@@ -80,15 +89,18 @@ def small_jobs():
 
 
 def sbox_jobs():
+    """Name of the job, its bytes, and those of the same job at unit prices."""
     for name in SBOXES:
         for free in (0, 1):
-            for prices in ((1, 1, 1), (1, 1, 5)):
-                text = f"{name} {'free' if free else 'fixed'} {','.join(map(str, prices))}"
-                yield text, job(sbox(name), 12, m=int("m=1" in name), free=free, prices=prices)
+            def record(prices):
+                return job(sbox(name), LIMIT, m=int("m=1" in name), free=free, prices=prices)
+
+            for prices in (UNIT, (1, 1, 5)):
+                layout = "free" if free else "fixed"
+                yield f"{name} {layout} {','.join(map(str, prices))}", record(prices), record(UNIT)
 
 
-def timed(command, record, cap):
-    """The program's line and its processor time, or None and None beyond the cap."""
+def timed(command, text, cap, codes=(0,)):
     process = subprocess.Popen(command, stdin=subprocess.PIPE, stdout=subprocess.PIPE)
     capped = threading.Event()
 
@@ -98,79 +110,157 @@ def timed(command, record, cap):
 
     timer = threading.Timer(cap, end)
     timer.start()
-    process.stdin.write(record)
-    process.stdin.close()
-    line = process.stdout.read().decode().strip()
+    try:
+        process.stdin.write(text)
+        process.stdin.close()
+    except BrokenPipeError:  # ended before it had read everything
+        pass
+    output = process.stdout.read().decode().strip()
     _, status, usage = os.wait4(process.pid, 0)
     timer.cancel()
     process.returncode = os.waitstatus_to_exitcode(status)
     process.stdout.close()
-    if capped.is_set():
-        return None, None
-    if process.returncode != 0:
+    if not capped.is_set() and process.returncode not in codes:
         sys.exit(f"{command} ended with code {process.returncode}")
-    return line, usage.ru_utime + usage.ru_stime
+    return Run(output, usage.ru_utime + usage.ru_stime, capped.is_set())
 
 
-def best_of(command, record, cap, repeat):
-    line, seconds = timed(command, record, cap)
-    for _ in range(repeat - 1):
-        if line is not None:
-            again, more = timed(command, record, cap)
-            line, seconds = (line, min(seconds, more)) if again == line else (again, more)
-    return line, seconds
+def best_of(command, text, cap, repeat, codes=(0,)):
+    runs = [timed(command, text, cap, codes)]
+    while len(runs) < repeat and not runs[0].capped:
+        runs.append(timed(command, text, cap, codes))
+    outputs = {run.output for run in runs if not run.capped}
+    if len(outputs) > 1:
+        sys.exit(f"{command} gave several answers to one job: {outputs}")
+    return min(runs, key=lambda run: (run.capped, run.seconds))
 
 
-def seconds_text(seconds, cap):
-    return f"> {cap:g}" if seconds is None else f"{seconds:.3f}"
+def seconds_text(run, cap):
+    if run is None:
+        return "-"
+    return f"> {cap:g}" if run.capped else f"{run.seconds:.3f}"
+
+
+def ratio_text(over, under):
+    """The ratio of two sums of seconds; a bound where one of them was capped."""
+    if not over or not under or None in over + under:
+        return "-"
+    open_above, open_below = (any(run.capped for run in runs) for runs in (over, under))
+    above, below = (sum(run.seconds for run in runs) for runs in (over, under))
+    if open_above and open_below or below <= 0.002:
+        return "-"
+    return f"{'>= ' if open_above else '<= ' if open_below else ''}{above / below:.{1 if above > below else 3}f}"
+
+
+def answer_text(runs):
+    lines = sorted({run.output for run in runs if not run.capped})
+    text = " | ".join(lines) if lines else "(none in time)"
+    return "DIFFERENT: " + text if len(lines) > 1 else text
 
 
 def table(columns, jobs, cap, repeat):
     """Prints the table; columns are (name, command), the last one the rival. True if all agree."""
-    width = 26
     names = "".join(f"{name:>10}" for name, _ in columns)
-    print(f"{'job':{width}}{names}{'ratio':>8}  answer")
+    print(f"{'job':{WIDTH}}{names}{'ratio':>9}  answer")
     agreed = True
-    for text, record in jobs:
-        results = [best_of(command, record, cap, repeat) for _, command in columns]
-        lines = {line for line, _ in results if line is not None}
-        times = "".join(f"{seconds_text(seconds, cap):>10}" for _, seconds in results)
-        first, last = results[0][1], results[-1][1]
-        known = len(columns) > 1 and first is not None and last is not None
-        ratio = f"{first / last:.1f}" if known and last > 0.002 else "-"
-        answer = " | ".join(sorted(lines)) if lines else "(none in time)"
-        if len(lines) > 1:
-            agreed = False
-            answer = "DIFFERENT: " + answer
-        print(f"{text:{width}}{times}{ratio:>8}  {answer}", flush=True)
+    for name, record in jobs:
+        runs = [best_of(command, record, cap, repeat) for _, command in columns]
+        times = "".join(f"{seconds_text(run, cap):>10}" for run in runs)
+        answer = answer_text(runs)
+        agreed = agreed and "DIFFERENT" not in answer
+        print(f"{name:{WIDTH}}{times}{ratio_text(runs[:-1], runs[-1:]):>9}  {answer}", flush=True)
     return agreed
 
 
+def sat_pair(solver, record, line, cap, repeat):
+    """The solver's runs on "at most K gates?" and "at most K - 1?", where the line (the answer at
+    unit prices) says K, and what is wrong with its answers ("" if nothing). For the line "none"
+    the first is left out."""
+    n, m, free, rows = record[0] >> 5, record[0] >> 3 & 3, record[0] >> 2 & 1, record[12:]
+    found = line.startswith("found")
+    least = int(line.split()[1]) if found else LIMIT + 1
+    runs, wrong = [None, None], ""
+    for i, most in ((0, least), (1, least - 1)):
+        if i == 0 and not found or most < 0:
+            continue
+        question = sat.Question(n, m, free, rows, most)
+        runs[i] = best_of([solver, "-q"], question.dimacs(), cap, repeat, codes=(10, 20))
+        if runs[i].capped:
+            continue
+        yes = "s SATISFIABLE" in runs[i].output
+        if yes != (i == 0):
+            wrong = f"SAT: at most {most} gates is {'' if yes else 'not '}enough"
+        elif yes and not sat.realizes(n, free, rows, question.circuit(runs[i].output)):
+            wrong = "SAT: the circuit doesn't realize the table"
+    return runs, wrong
+
+
+def sbox_table(proved, plain, solver, jobs, cap, repeat):
+    """Prints the table of the S-boxes; a missing program is None. True if all agree."""
+    print(f"{'job':{WIDTH}}{'proved':>10}{'plain':>10}{'ratio':>9}{'sat K':>10}{'sat K-1':>10}{'sat/proved':>11}  answer")
+    agreed, least, pairs = True, {}, {}
+    for name, record, unit in jobs:
+        runs = [best_of(command, record, cap, repeat) if command else None for command in (proved, plain)]
+        ended = [run for run in runs if run and not run.capped]
+        if record == unit and ended:
+            least[unit] = ended[0].output
+        if solver and unit not in pairs:
+            if unit not in least:
+                run = timed([plain[0], "--rules", "max"], unit, cap)
+                least[unit] = None if run.capped else run.output
+            pairs[unit] = sat_pair(solver, unit, least[unit], cap, repeat) if least[unit] else ([], "")
+        pair, wrong = pairs.get(unit, ([], ""))
+        answer = " ".join(filter(None, [answer_text(ended), wrong]))
+        agreed = agreed and not wrong and "DIFFERENT" not in answer
+        times = [seconds_text(run, cap) for run in runs + (pair or [None, None])]
+        known = [run for run in pair if run]
+        print(f"{name:{WIDTH}}{times[0]:>10}{times[1]:>10}{ratio_text(runs[:1], runs[1:]):>9}"
+              f"{times[2]:>10}{times[3]:>10}{ratio_text(known, runs[:1]):>11}  {answer}", flush=True)
+    return agreed
+
+
+SBOX_HEADER = """\
+proved, plain: the proved program and plain.rs at --rules {rules}; ratio: the first over the second.
+sat K, sat K-1: cadical on "is there a circuit of at most K gates?" (yes) and "of at most K - 1?" (no),
+where K is the least number of gates. It is told K: from the answer at prices 1,1,1 of the proved
+program, else of plain.rs, else of plain.rs --rules max (not timed). Both are questions on the number
+of gates alone, so they are asked once for a layout, and the rows of other prices show them again.
+The making of the CNF (sat.py) isn't counted. sat/proved: both questions together over proved.
+>= or <=: one side was ended at the cap (wall clock), and the ratio is a bound from the seconds it had used."""
+
+
 def main():
-    parser = argparse.ArgumentParser(description="The proved search and the plain one side by side.")
-    parser.add_argument("main_binary", help="the proved program, or - for plain.rs alone")
-    parser.add_argument("--rules", default="base", choices=["base", "full", "max"])
+    parser = argparse.ArgumentParser(description="The proved search, the plain one and a SAT solver side by side.")
+    parser.add_argument("main_binary", help="the proved program, or - for the others alone")
+    parser.add_argument("--rules", choices=["base", "full", "max"], help="of plain.rs: base, with --sboxes full")
     parser.add_argument("--sboxes", action="store_true", help="the S-boxes of 002 at limit 12")
-    parser.add_argument("--cap", type=float, default=60, help="seconds for a job and program")
+    parser.add_argument("--no-sat", action="store_true", help="leave the SAT solver out")
+    parser.add_argument("--cap", type=float, help="seconds for a job and program: 60, with --sboxes 20")
     parser.add_argument("--repeat", type=int, default=1, help="runs of each; the least time counts")
     parser.add_argument("--only", default="", help="only the jobs whose name holds this text")
     parser.add_argument("--target", help="folder for the compiled plain.rs")
     args = parser.parse_args()
+    rules = args.rules or ("full" if args.sboxes else "base")
+    cap = args.cap or (20 if args.sboxes else 60)
     if hasattr(os, "sched_setaffinity"):
         os.sched_setaffinity(0, {max(os.sched_getaffinity(0))})
     with tempfile.TemporaryDirectory() as folder:
         plain = os.path.join(args.target or folder, "plain")
         os.makedirs(os.path.dirname(plain), exist_ok=True)
         subprocess.run(["rustc", "-O", "-o", plain, os.path.join(HERE, "plain.rs")], check=True)
-        columns = [("plain", [plain, "--rules", args.rules])]
-        if args.main_binary != "-":
-            columns.insert(0, ("proved", [os.path.abspath(args.main_binary)]))
-        # LATER ADDITION, not written yet: with --sboxes, a column for a SAT solver (cadical, if
-        # installed) goes between these two, with a command that reads the job and prints the line.
-        print(f"plain.rs at --rules {args.rules}; processor seconds, one core, least of {args.repeat}")
-        jobs = sbox_jobs() if args.sboxes else small_jobs()
-        jobs = [(text, record) for text, record in jobs if args.only in text]
-        agreed = table(columns, jobs, args.cap, args.repeat)
+        plain = [plain, "--rules", rules]
+        proved = None if args.main_binary == "-" else [os.path.abspath(args.main_binary)]
+        print(f"processor seconds, one core, least of {args.repeat}; plain.rs at --rules {rules}; cap {cap:g} s")
+        if args.sboxes:
+            solver = None if args.no_sat else shutil.which("cadical")
+            print(SBOX_HEADER.format(rules=rules))
+            print("" if solver else "No SAT solver in this run.\n", flush=True)
+            jobs = [entry for entry in sbox_jobs() if args.only in entry[0]]
+            agreed = sbox_table(proved, plain, solver, jobs, cap, args.repeat)
+        else:
+            columns = ([("proved", proved)] if proved else []) + [("plain", plain)]
+            jobs = [entry for entry in small_jobs() if args.only in entry[0]]
+            agreed = table(columns, jobs, cap, args.repeat)
     sys.exit(0 if agreed else 1)
 
 

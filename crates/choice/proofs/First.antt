@@ -66,6 +66,27 @@ module _ (good : Choice → Bool) where
       by-tests true true e f = inr (record { takes = refl; fine = e; not-later = λ c h. let p : b ≡ c = cc in rw (← p) (asymmetric a b f) })
       by-tests true false e f = inl (record { same = refl; not-before = λ h. (b, (refl, f)) })
 
+  -- a choice that is no use once is no use later, when something earlier may be held
+  left-once : (x : Option Choice) (a b : Choice) → attempt good x a ≡ x → attempt good (attempt good x b) a ≡ attempt good x b
+  left-once x a b e = by-attempt (attempt-cases x b) (good a) refl
+    where
+      behind : Left good x a (attempt good x a) ⊎ Taken good x a (attempt good x a) → good a ≡ true → (d : Choice) × ((x ≡ some d) × (before a d ≡ false))
+      behind (inl s) g = s .not-before g
+      behind (inr s) g = (a, (sym e ∙ s .takes, irreflexive a))
+
+      by-attempt : Left good x b (attempt good x b) ⊎ Taken good x b (attempt good x b) → (t : Bool) → good a ≡ t
+          → attempt good (attempt good x b) a ≡ attempt good x b
+      by-attempt (inl s) t g = rw (s .same) e
+      by-attempt (inr s) true g =
+          let u = behind (attempt-cases x a) g in
+          rw (s .takes) (attempt-after a b (not-transitive b (u .0) a (s .not-later (u .0) (u .1 .0)) (u .1 .1)))
+      by-attempt (inr s) false g = attempt-not (attempt good x b) a g
+
+  pub left-later : (x : Option Choice) (a : Choice) (l : List Choice) → attempt good x a ≡ x → attempt good (improve good x l) a ≡ improve good x l
+  unfolding improve
+  left-later x a [] e = e
+  left-later x a (b ∷ l) e = left-later (attempt good x b) a l (left-once x a b e)
+
   least : (x : Option Choice) (l : List Choice) (c : Choice) → improve good x l ≡ some c → Least good x l c
   unfolding improve
   least x [] c h =

@@ -1,7 +1,7 @@
 -- What the public call owes: each way out of it is the outcome of its definition.
-use mathlib.Core.Path.{_≡_, refl, sym, ap, _∙_}
+use mathlib.Core.Path.{_≡_, sym, ap, _∙_}
 use mathlib.Core.Bool.{true, false}
-use mathlib.Core.List.{List, [], _∷_, _++_, map}
+use mathlib.Core.List.{List, _∷_, _++_, map}
 use mathlib.Core.Option.{none}
 use Prim.Native.Nat.{ℕ, zero, suc, _+_, _*_, _≤_, _<_}
 use native.Mathlib.Omega.{arith}
@@ -10,17 +10,14 @@ use lib.Dec.{leb, eqb, lit<}
 use lib.ListN.{length, take, drop, getD, drop-of-length-le}
 use lib.Seq.{length-take-le, drop-cons, take-length}
 use Rattle.logic.specs.Rules.{both, rule}
-use Rattle.logic.specs.Lists.{allOf, along, total, count}
+use Rattle.logic.specs.Lists.{count}
 use Rattle.logic.proofs.Chain.{both-left, both-right, and-then-zero, rule-kept}
-use Rattle.record.specs.Jobs.{dataWires, ancillas, gateLimit, jobCode}
+use Rattle.record.specs.Jobs.{dataWires, ancillas, jobCode}
 use Rattle.parity.specs.Parity.{oddTable}
 use Rattle.best.specs.declared.Best.{Best}
 use Rattle.best.specs.Inner.{choice, view}
-use Rattle.circuit.proofs.Times.{idle-until}
-use Rattle.search.specs.declared.Task.{Task}
-use Rattle.search.specs.declared.Node.{Node}
 use Rattle.search.specs.Outcomes.{firstGood, refusal, found, recordOf, outcomeOf, searchCode, searchOf}
-use Rattle.search.specs.Inner.{taskOf, nodeOf, At, lookedUnder, alwaysNone}
+use Rattle.search.specs.Inner.{alwaysNone}
 use Rattle.search.proofs.Facts.{odd-first}
 
 -- a list by its elements
@@ -61,21 +58,6 @@ odd-nothing job sound h =
     let m = eqb (ancillas job) 0 in
     let k = both-left (both n m) (oddTable job) h in
     odd-first job sound (eqb-true (dataWires job) 4 (both-left n m k)) (eqb-true (ancillas job) 0 (both-right n m k)) (both-right (both n m) (oddTable job) h)
-
-pub at-root : (job : List ℕ) (task : Task) (s : Node) (path : List ℕ) → jobCode job ≡ 0 → task ≡ taskOf job → s ≡ nodeOf job [] → At job task s path 0
-unfolding allOf nodeOf along total
-at-root job task s path sound t r = record {
-  sound = sound;
-  tasked = t;
-  reached = r;
-  kept = refl;
-  early = λ w. rw r (idle-until w);
-  cheap = rw r (omega arith);
-}
-
-pub looked-all : (job : List ℕ) → lookedUnder job [] (gateLimit job) none ≡ firstGood job
-unfolding lookedUnder firstGood
-looked-all job = refl
 
 front : (h l k : ℕ) (path : List ℕ) (len : ℕ) → take (3 + len) (h ∷ l ∷ k ∷ path) ≡ h ∷ l ∷ k ∷ take len path
 front h l k path len = let e : 3 + len ≡ suc (suc (suc len)) = omega arith in rw e

@@ -25,7 +25,7 @@ use Rattle.parity.specs.Parity.{oddTable}
 use Rattle.parity.proofs.Never.{none-realizes}
 use Rattle.choice.specs.Choices.{Choice, before}
 use Rattle.search.specs.Outcomes.{choiceOf, here, gatesOf, choices, good, firstGood, refusal, found, recordOf, measuresIn, outcomeOf, searchCode, searchOf}
-use Rattle.search.proofs.Members.{among-lawful, lawful-among, layout-is, layout-has, layout-lt}
+use Rattle.node.proofs.Members.{among-lawful, lawful-among, layout-is, layout-has, layout-lt}
 use Rattle.choice.proofs.Order as Order
 use Rattle.choice.proofs.First as First
 use Rattle.choice.proofs.Enumeration as Enumeration

@@ -1,65 +1,60 @@
--- The state of the search, for the contracts of its private functions.
+-- What the search knows on its way, for the contracts of its private functions.
 use mathlib.Core.Path.{_≡_}
 use mathlib.Core.Bool.{Bool, true}
-use mathlib.Core.List.{List}
-use mathlib.Core.Option.{Option}
-use Prim.Native.Nat.{ℕ, _+_, _*_, _≤_}
-use lib.Dec.{eqb}
-use lib.ListN.{getD, take}
-use Rattle.logic.specs.Lists.{allOf, along}
-use Rattle.gate.specs.Gates.{lawful, gateOf}
-use Rattle.gate.specs.Inner.{columnStep}
-use Rattle.circuit.specs.Measure.{weightOf, cost, hold, readyTimes}
-use Rattle.record.specs.Jobs.{dataWires, ancillas, wires, freeLayout, costLimit, depthLimit, prices, durations, priceOf, durationOf, jobCode}
+use mathlib.Core.List.{List, [], _++_, List·Memᴰ}
+use mathlib.Core.Option.{Option, none}
+use Prim.Native.Nat.{ℕ, _≤_, _<_}
+use lib.Dec.{leb, eqb}
+use lib.ListN.{length}
 use Rattle.logic.specs.Rules.{both}
+use Rattle.logic.specs.Lists.{allOf}
+use Rattle.gate.specs.Gates.{lawful}
+use Rattle.record.specs.Jobs.{dataWires, ancillas, wires, freeLayout, gateLimit, depthLimit, jobCode}
+use Rattle.record.specs.Layouts.{layoutsFor}
+use Rattle.verify.specs.Realize.{realizes}
 use Rattle.parity.specs.Parity.{oddTable}
-use Rattle.slices.specs.Wanted.{wantedOf, startColumns}
-use Rattle.choice.specs.Choices.{Choice, improve, under}
-use Rattle.search.specs.declared.Task.{Task}
-use Rattle.search.specs.declared.Node.{Node}
-use Rattle.search.specs.Outcomes.{here, gatesOf, good}
+use Rattle.choice.specs.Choices.{Choice, attempt, improve, under}
+use Rattle.budget.specs.Heavy.{heavies}
+use Rattle.search.specs.Outcomes.{choiceOf, here, gatesOf, choices, good}
 
--- what stays the same throughout a search
-unfoldable pub taskOf : List ℕ → Task
-taskOf job = record {
-  wanted = wantedOf job;
-  prices = prices job;
-  durations = durations job;
-  «cost_limit» = costLimit job;
-  «depth_limit» = depthLimit job;
-  outputs = dataWires job;
-  wires = wires job;
-  free = freeLayout job;
-}
-
--- where a list leads: the columns of its wires, their ready times, and its cost
-unfoldable pub nodeOf : List ℕ → List ℕ → Node
-nodeOf job l = record {
-  columns = along (λ b. columnStep (gateOf b)) l startColumns;
-  times = readyTimes (durationOf job) l;
-  cost = cost (priceOf job) l;
-}
-
--- one gate further
-unfoldable pub advanced : Task → ℕ → Node → Node
-advanced task g s = record {
-  columns = columnStep (gateOf g) (s .columns);
-  times = hold (gateOf g) (weightOf (task .durations) g) (s .times);
-  cost = s .cost + weightOf (task .prices) g;
-}
-
--- what is known at a node: the list so far is the first n bytes of the path, its gates are lawful, and its sums fit
-pub record At (job : List ℕ) (task : Task) (s : Node) (path : List ℕ) (n : ℕ) : Type 0 where
-  pub sound : jobCode job ≡ 0
-  pub tasked : task ≡ taskOf job
-  pub reached : s ≡ nodeOf job (take n path)
-  pub kept : allOf (lawful 2 (wires job)) (take n path) ≡ true
-  pub early : (w : ℕ) → getD (s .times) w 0 ≤ 255 * n
-  pub cheap : s .cost ≤ 255 * n
+-- good, with a limit on cost of one search in the place of the job's
+unfoldable pub within : List ℕ → ℕ → Choice → Bool
+within job limit c = both (realizes job (c .layout) (c .bytes)) (both (leb (c .cost) limit) (leb (c .depth) (depthLimit job)))
 
 -- what is held once everything below a list was looked at
-unfoldable pub lookedUnder : List ℕ → List ℕ → ℕ → Option Choice → Option Choice
-lookedUnder job l k held = improve (good job) held (under (here job) (gatesOf job) l k)
+unfoldable pub lookedUnder : List ℕ → ℕ → List ℕ → ℕ → Option Choice → Option Choice
+lookedUnder job limit l k held = improve (within job limit) held (under (here job) (gatesOf job) l k)
+
+-- each way to finish the list has at least k heavy gates
+pub record Needs (job l : List ℕ) (k : ℕ) : Type 0 where
+  pub least : (e : List ℕ) (p : ℕ) → allOf (lawful 2 (wires job)) e ≡ true → List·Memᴰ p (layoutsFor (dataWires job) (freeLayout job))
+      → realizes job p (l ++ e) ≡ true → k ≤ heavies e
+
+-- no way to go on by more than r gates changes what is held
+pub record Enough (job : List ℕ) (limit : ℕ) (l : List ℕ) (remaining r : ℕ) (held : Option Choice) : Type 0 where
+  pub beyond : (e : List ℕ) (p : ℕ) → allOf (lawful 2 (wires job)) e ≡ true → List·Memᴰ p (layoutsFor (dataWires job) (freeLayout job))
+      → length e ≤ remaining → r < length e → attempt (within job limit) held (choiceOf job (l ++ e) p) ≡ held
+
+-- what all searches of one job share: its gates, and how many heavy ones each list has at least
+pub record Set (job gates : List ℕ) (needs : ℕ) : Type 0 where
+  pub sound : jobCode job ≡ 0
+  pub listed : gates ≡ gatesOf job
+  pub needed : Needs job [] needs
+  pub few : needs ≤ 12
+
+-- nothing good that costs at most `limit` has fewer than g gates
+pub record Past (job : List ℕ) (limit g : ℕ) : Type 0 where
+  pub gates-least : (a : Choice) → List·Memᴰ a (choices job) → good job a ≡ true → a .cost ≤ limit → g ≤ a .gates
+
+-- nothing good costs less than c
+pub record Dearer (job : List ℕ) (c : ℕ) : Type 0 where
+  pub cost-least : (a : Choice) → List·Memᴰ a (choices job) → good job a ≡ true → c ≤ a .cost
+
+-- what the search finds first when the count of gates rises: it has g gates, and nothing good within the limit has fewer
+pub record First (job : List ℕ) (limit : ℕ) (held : Option Choice) (g : ℕ) : Type 0 where
+  pub finds : held ≡ lookedUnder job limit [] g none
+  pub allowed : g ≤ gateLimit job
+  pub past : Past job limit g
 
 -- four data wires, no ancilla, an odd permutation
 unfoldable pub alwaysNone : List ℕ → Bool

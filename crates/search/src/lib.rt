@@ -1,7 +1,7 @@
 // The search for the first circuit by cost: depth first over all gate lists up to the limit, cutting only what cannot change the answer.
 use best::Best;
-use circuit::Weights;
-use slices::Wanted;
+use node::Node;
+use node::Task;
 use verify::Measures;
 ghost use mathlib.Core.Path.{_≡_};
 ghost use mathlib.Core.Bool.{true, false};
@@ -9,11 +9,15 @@ ghost use mathlib.Core.List.{List, [], _∷_, _++_};
 ghost use mathlib.Core.Option.{none};
 ghost use Prim.Native.Nat.{ℕ, _+_, _*_, _≤_, _<_};
 ghost use lib.ListN.{length, getD, take, drop};
-ghost use Rattle.record.specs.Jobs.{dataWires, ancillas, gateLimit, jobCode};
-ghost use Rattle.choice.specs.Choices.{improve, attempt};
+ghost use Rattle.record.specs.Jobs.{dataWires, ancillas, gateLimit, costLimit, priceOf, jobCode};
+ghost use Rattle.slices.specs.Wanted.{lost};
+ghost use Rattle.choice.specs.Choices.{Choice, improve, attempt};
+ghost use Rattle.budget.specs.Heavy.{heavy};
+ghost use Rattle.budget.specs.Sums.{Marked};
 ghost use Rattle.best.specs.Inner.{view};
-ghost use Rattle.search.specs.Outcomes.{choiceOf, here, good, firstGood, recordOf, searchCode, searchOf, reported, written, outcomeCode, searchedCode, sizeIn};
-ghost use Rattle.search.specs.Inner.{taskOf, nodeOf, advanced, At, lookedUnder, alwaysNone};
+ghost use Rattle.node.specs.States.{At};
+ghost use Rattle.search.specs.Outcomes.{choiceOf, here, gatesOf, firstGood, recordOf, searchCode, searchOf, reported, written, outcomeCode, searchedCode, sizeIn};
+ghost use Rattle.search.specs.Inner.{within, lookedUnder, Needs, Enough, Set, Past, First, Dearer, alwaysNone};
 
 // What the search answers: a refusal's number, or the record's length and measures.
 pub enum Searched {
@@ -21,66 +25,11 @@ pub enum Searched {
     Found(usize, Measures),
 }
 
-// What stays the same throughout a search.
-pub struct Task {
-    pub wanted: Wanted,
-    pub prices: Weights,
-    pub durations: Weights,
-    pub cost_limit: usize,
-    pub depth_limit: usize,
-    pub outputs: usize,
-    pub wires: usize,
-    pub free: usize,
-}
-
-// Where a gate list leads: the columns of its wires, their ready times, and its cost.
-pub struct Node {
-    pub columns: [u16; 5],
-    pub times: [u16; 5],
-    pub cost: u16,
-}
-
-fn task_of(job: &[u8]) -> Task
-    requires { ⌜ length (now job) ≤ 28 ⌝ }
-    ensures { λ r. ⌜ r ≡ taskOf (now (job .entry)) ⌝ }
-{
-    Task {
-        wanted: slices::wanted_of(job),
-        prices: record::prices(job),
-        durations: record::durations(job),
-        cost_limit: record::cost_limit(job),
-        depth_limit: record::depth_limit(job),
-        outputs: record::data_wires(job),
-        wires: record::wires(job),
-        free: record::free_layout(job),
-    }
-}
-
-// One gate further.
-fn advance(task: Task, g: u8, s: Node) -> Node
-    requires { ⌜ ((w : ℕ) → getD (s .times) w 0 ≤ 65280) ⌝ }
-    requires { ⌜ s .cost ≤ 65280 ⌝ }
-    ensures { λ r. ⌜ r ≡ advanced task g s ⌝ }
-    ensures { λ r. ⌜ r .cost ≤ s .cost + 255 ⌝ }
-    ensures { λ r. ⌜ ((m : ℕ) → ((w : ℕ) → getD (s .times) w 0 ≤ m) → (w : ℕ) → getD (r .times) w 0 ≤ m + 255) ⌝ }
-{
-    let gate = gate::decode(g);
-    let columns = s.columns;
-    let times = s.times;
-    let prices = task.prices;
-    let durations = task.durations;
-    Node {
-        columns: gate::step_columns(gate, columns),
-        times: circuit::hold(gate, circuit::weight(durations, g), times),
-        cost: s.cost + circuit::weight(prices, g) as u16,
-    }
-}
-
 // Offers the list so far with one layout, if that is good.
 fn try_layout(job: &[u8], task: Task, s: Node, path: [u8; 12], n: usize, p: u8, best: Best) -> Best
     requires { ⌜ At (now job) task s path n ⌝ }
     requires { ⌜ (n ≤ 12) × (best .len ≤ 12) ⌝ }
-    ensures { λ r. ⌜ view r ≡ attempt (good (now (job .entry))) (view best) (choiceOf (now (job .entry)) (take n path) p) ⌝ }
+    ensures { λ r. ⌜ view r ≡ attempt (within (now (job .entry)) (task .«cost_limit»)) (view best) (choiceOf (now (job .entry)) (take n path) p) ⌝ }
     ensures { λ r. ⌜ r .len ≤ 12 ⌝ }
 {
     let wanted = task.wanted;
@@ -109,7 +58,7 @@ fn try_layout(job: &[u8], task: Task, s: Node, path: [u8; 12], n: usize, p: u8, 
 fn consider(job: &[u8], task: Task, s: Node, path: [u8; 12], n: usize, best: Best) -> Best
     requires { ⌜ At (now job) task s path n ⌝ }
     requires { ⌜ (n ≤ 12) × (best .len ≤ 12) ⌝ }
-    ensures { λ r. ⌜ view r ≡ improve (good (now (job .entry))) (view best) (here (now (job .entry)) (take n path)) ⌝ }
+    ensures { λ r. ⌜ view r ≡ improve (within (now (job .entry)) (task .«cost_limit»)) (view best) (here (now (job .entry)) (take n path)) ⌝ }
     ensures { λ r. ⌜ r .len ≤ 12 ⌝ }
 {
     let count = record::layout_count(task.outputs, task.free);
@@ -124,7 +73,30 @@ fn consider(job: &[u8], task: Task, s: Node, path: [u8; 12], n: usize, best: Bes
     b
 }
 
-// Whether nothing below the list so far can change what is held.
+// The same, where the outputs that every layout misses were counted: one of them is enough to pass the layouts over.
+fn consider_met(
+    job: &[u8],
+    task: Task,
+    s: Node,
+    path: [u8; 12],
+    n: usize,
+    missing: usize,
+    best: Best,
+) -> Best
+    requires { ⌜ At (now job) task s path n ⌝ }
+    requires { ⌜ (n ≤ 12) × (best .len ≤ 12) ⌝ }
+    requires { ⌜ missing ≡ lost (task .wanted) (s .columns) (task .outputs) (task .free) ⌝ }
+    ensures { λ r. ⌜ view r ≡ improve (within (now (job .entry)) (task .«cost_limit»)) (view best) (here (now (job .entry)) (take n path)) ⌝ }
+    ensures { λ r. ⌜ r .len ≤ 12 ⌝ }
+{
+    if missing == 0 {
+        consider(job, task, s, path, n, best)
+    } else {
+        best
+    }
+}
+
+// Whether nothing below the list so far can change what is held, by its cost, its gates and its depth.
 fn hopeless(
     job: &[u8],
     task: Task,
@@ -136,7 +108,7 @@ fn hopeless(
 ) -> bool
     requires { ⌜ At (now job) task s path n ⌝ }
     requires { ⌜ n ≤ 12 ⌝ }
-    ensures { λ r. ⌜ (r ≡ true → lookedUnder (now (job .entry)) (take n path) remaining (view best) ≡ view best) ⌝ }
+    ensures { λ r. ⌜ (r ≡ true → lookedUnder (now (job .entry)) (task .«cost_limit») (take n path) remaining (view best) ≡ view best) ⌝ }
 {
     let cost = s.cost;
     if task.cost_limit < cost as usize {
@@ -153,46 +125,131 @@ fn hopeless(
         }
     }
     let times = s.times;
-    if task.depth_limit < circuit::latest(times) as usize {
-        return true;
-    }
-    let wanted = task.wanted;
-    let columns = s.columns;
-    remaining < slices::lost(wanted, columns, task.outputs, task.free)
+    task.depth_limit < circuit::latest(times) as usize
 }
 
-// What is held once every list that begins with the path and goes on by at most `remaining` gates was looked at.
-fn dfs(
+// The most that a list may cost to change what is held.
+fn cap(limit: usize, best: Best) -> usize
+    ensures { λ r. ⌜ ((job : List ℕ) (c : Choice) → r < c .cost → attempt (within job limit) (view best) c ≡ view best) ⌝ }
+{
+    let cost = best.cost as usize;
+    if best.found {
+        if cost < limit {
+            return cost;
+        }
+    }
+    limit
+}
+
+// The most gates that a list may go on by to change what is held: those that the cost left buys, where `needs` of them have two controls.
+fn affordable(
     job: &[u8],
     task: Task,
     s: Node,
     path: [u8; 12],
     n: usize,
     remaining: usize,
+    needs: usize,
+    best: Best,
+) -> usize
+    requires { ⌜ At (now job) task s path n ⌝ }
+    requires { ⌜ Needs (now job) (take n path) needs ⌝ }
+    requires { ⌜ needs ≤ 12 ⌝ }
+    ensures { λ r. ⌜ r ≤ remaining ⌝ }
+    ensures { λ r. ⌜ Enough (now (job .entry)) (task .«cost_limit») (take n path) remaining r (view best) ⌝ }
+{
+    let most = cap(task.cost_limit, best);
+    let cost = s.cost as usize;
+    if most < cost {
+        return 0;
+    }
+    if budget::unaffordable(task.extra, needs, most - cost) {
+        return 0;
+    }
+    budget::reach(task.low, task.extra, needs, most - cost, remaining)
+}
+
+// How many gates of two controls each way to finish the list has at least, one gate further.
+fn still_needed(
+    job: &[u8],
+    task: Task,
+    s: Node,
+    path: [u8; 12],
+    n: usize,
+    g: u8,
+    needs: usize,
+) -> usize
+    requires { ⌜ At (now job) task s path n ⌝ }
+    requires { ⌜ (heavy g ≡ false → Needs (now job) (take n path) needs) ⌝ }
+    requires { ⌜ needs ≤ 12 ⌝ }
+    ensures { λ r. ⌜ Needs (now (job .entry)) (take n path) r ⌝ }
+    ensures { λ r. ⌜ r ≤ 12 ⌝ }
+{
+    if task.extra == 0 {
+        return 0;
+    }
+    if u8::count_ones(g % 32) < 2 {
+        return needs;
+    }
+    let wanted = task.wanted;
+    let columns = s.columns;
+    span::needed(wanted, columns, task.outputs)
+}
+
+// What is held once every list that begins with the path and goes on by at most `remaining` gates was looked at.
+fn dfs(
+    job: &[u8],
+    gates: &[u8],
+    task: Task,
+    s: Node,
+    path: [u8; 12],
+    n: usize,
+    remaining: usize,
+    needs: usize,
     best: Best,
 ) -> Best
     requires { ⌜ At (now job) task s path n ⌝ }
     requires { ⌜ (n + remaining ≤ 12) × (best .len ≤ 12) ⌝ }
-    ensures { λ r. ⌜ view r ≡ lookedUnder (now (job .entry)) (take n path) remaining (view best) ⌝ }
+    requires { ⌜ now gates ≡ gatesOf (now job) ⌝ }
+    requires { ⌜ Needs (now job) (take n path) needs × (needs ≤ 12) ⌝ }
+    ensures { λ r. ⌜ view r ≡ lookedUnder (now (job .entry)) (task .«cost_limit») (take n path) remaining (view best) ⌝ }
     ensures { λ r. ⌜ r .len ≤ 12 ⌝ }
 {
-    if hopeless(job, task, s, path, n, remaining, best) {
+    let most = affordable(job, task, s, path, n, remaining, needs, best);
+    let wanted = task.wanted;
+    let columns = s.columns;
+    let plan = rules::plan_of(wanted, columns, task.outputs, task.free);
+    if logic::either(most < plan.lost, most < needs) {
         return best;
     }
-    let mut b = consider(job, task, s, path, n, best);
-    if remaining == 0 {
+    let mut b = consider_met(job, task, s, path, n, plan.lost, best);
+    if most == 0 {
         return b;
     }
-    let wires = task.wires;
-    let count = gate::gate_count(wires);
+    let table = rules::table_of(wanted, columns);
     let mut i = 0;
-    while i < count {
-        let g = gate::gate_at(wires, i);
-        let mut longer = path;
-        longer[n] = g;
-        let next = advance(task, g, s);
-        let found = dfs(job, task, next, longer, n + 1, remaining - 1, b);
-        b = found;
+    while i < gates.len() {
+        let g = gates[i];
+        if rules::worth(&table, plan, task.outputs, task.free, g, most) {
+            let mut longer = path;
+            longer[n] = g;
+            let next = node::advance(task, g, s);
+            if !hopeless(job, task, next, longer, n + 1, remaining - 1, b) {
+                let more = still_needed(job, task, next, longer, n + 1, g, needs);
+                let found = dfs(
+                    job,
+                    gates,
+                    task,
+                    next,
+                    longer,
+                    n + 1,
+                    remaining - 1,
+                    more,
+                    b,
+                );
+                b = found;
+            }
+        }
         i += 1;
     }
     b
@@ -200,7 +257,7 @@ fn dfs(
 
 // Nothing held yet.
 fn no_circuit() -> Best
-    ensures { λ r. ⌜ (view r ≡ none) × (r .len ≤ 12) ⌝ }
+    ensures { λ r. ⌜ (view r ≡ none) × ((r .found ≡ false) × (r .len ≤ 12)) ⌝ }
 {
     Best {
         found: false,
@@ -212,15 +269,136 @@ fn no_circuit() -> Best
     }
 }
 
-// The node of the empty list.
-fn root() -> Node
-    ensures { λ r. ⌜ ((job : List ℕ) → r ≡ nodeOf job []) ⌝ }
+// One search: the first of the lists that cost at most `limit` and have at most `most` gates.
+fn run(job: &[u8], gates: &[u8], limit: usize, most: usize, needs: usize) -> Best
+    requires { ⌜ Set (now job) (now gates) needs ⌝ }
+    requires { ⌜ most ≤ 12 ⌝ }
+    ensures { λ r. ⌜ view r ≡ lookedUnder (now (job .entry)) limit [] most none ⌝ }
+    ensures { λ r. ⌜ r .len ≤ 12 ⌝ }
 {
-    Node {
-        columns: slices::start_columns(),
-        times: [0u16; 5],
-        cost: 0,
+    let path = [0u8; 12];
+    dfs(
+        job,
+        gates,
+        node::task_of(job, limit),
+        node::root(),
+        path,
+        0,
+        most,
+        needs,
+        no_circuit(),
+    )
+}
+
+// Deepening on gates: one gate more until a search finds something.
+fn fewest(job: &[u8], gates: &[u8], limit: usize, from: usize, most: usize, needs: usize) -> Best
+    requires { ⌜ Set (now job) (now gates) needs ⌝ }
+    requires { ⌜ (from ≤ most) × (most ≤ gateLimit (now job)) ⌝ }
+    requires { ⌜ limit ≤ costLimit (now job) ⌝ }
+    requires { ⌜ Past (now job) limit from ⌝ }
+    ensures { λ r. ⌜ (r .found ≡ false → Past (now (job .entry)) limit (most + 1)) ⌝ }
+    ensures { λ r. ⌜ (r .found ≡ true → First (now (job .entry)) limit (view r) (r .len)) ⌝ }
+    ensures { λ r. ⌜ r .len ≤ 12 ⌝ }
+{
+    let mut g = from;
+    while g < most {
+        let b = run(job, gates, limit, g, needs);
+        if b.found {
+            return b;
+        }
+        g += 1;
     }
+    run(job, gates, limit, most, needs)
+}
+
+// The search at one cost: the counts of gates from `from` up to what the cost buys.
+fn at_cost(job: &[u8], gates: &[u8], limit: usize, from: usize, needs: usize) -> Best
+    requires { ⌜ Set (now job) (now gates) needs ⌝ }
+    requires { ⌜ limit ≤ costLimit (now job) ⌝ }
+    requires { ⌜ Past (now job) limit from ⌝ }
+    ensures { λ r. ⌜ (r .found ≡ false → Dearer (now (job .entry)) (limit + 1)) ⌝ }
+    ensures { λ r. ⌜ (r .found ≡ true → First (now (job .entry)) limit (view r) (r .len)) ⌝ }
+    ensures { λ r. ⌜ r .len ≤ 12 ⌝ }
+{
+    let prices = record::prices(job);
+    let low = budget::low(prices);
+    let most = budget::reach(
+        low,
+        budget::extra(prices),
+        needs,
+        limit,
+        record::gate_limit(job),
+    );
+    if most < from {
+        return no_circuit();
+    }
+    fewest(job, gates, limit, from, most, needs)
+}
+
+// Whether some list may cost `c`; costs past the end of the marks are not ruled out.
+fn achievable(marks: &[u8], c: usize) -> bool
+    ensures { λ r. ⌜ (r ≡ false → (c < length (now (marks .entry))) × (getD (now (marks .entry)) c 0 ≡ 1 → ⊥)) ⌝ }
+{
+    if c < marks.len() { marks[c] == 1 } else { true }
+}
+
+// Deepening on cost: the sums of prices below the cost of what is held, rising.
+fn cheaper(job: &[u8], gates: &[u8], marks: &[u8], needs: usize, held: Best) -> Best
+    requires { ⌜ Set (now job) (now gates) needs ⌝ }
+    requires { ⌜ Marked (priceOf (now job)) (gatesOf (now job)) (now marks) ⌝ }
+    requires { ⌜ (held .found ≡ true) × (held .len ≤ 12) ⌝ }
+    requires { ⌜ First (now job) (costLimit (now job)) (view held) (held .len) ⌝ }
+    ensures { λ r. ⌜ view r ≡ firstGood (now (job .entry)) ⌝ }
+    ensures { λ r. ⌜ r .len ≤ 12 ⌝ }
+{
+    let mut c = 0;
+    while c < held.cost as usize {
+        if achievable(marks, c) {
+            let b = at_cost(job, gates, c, held.len, needs);
+            if b.found {
+                return b;
+            }
+        }
+        c += 1;
+    }
+    held
+}
+
+// The gates of two controls that every list has at least.
+fn needed_at_all(job: &[u8]) -> usize
+    requires { ⌜ jobCode (now job) ≡ 0 ⌝ }
+    ensures { λ r. ⌜ Needs (now (job .entry)) [] r ⌝ }
+    ensures { λ r. ⌜ r ≤ 12 ⌝ }
+{
+    span::needed(
+        slices::wanted_of(job),
+        slices::start_columns(),
+        record::data_wires(job),
+    )
+}
+
+// Feasibility first: with no limit on cost but the job's, the fewest gates. What that finds caps the costs to try.
+fn deepened(job: &[u8], gates: &[u8]) -> Best
+    requires { ⌜ jobCode (now job) ≡ 0 ⌝ }
+    requires { ⌜ now gates ≡ gatesOf (now job) ⌝ }
+    ensures { λ r. ⌜ view r ≡ firstGood (now (job .entry)) ⌝ }
+    ensures { λ r. ⌜ r .len ≤ 12 ⌝ }
+{
+    let needs = needed_at_all(job);
+    let held = fewest(
+        job,
+        gates,
+        record::cost_limit(job),
+        0,
+        record::gate_limit(job),
+        needs,
+    );
+    if !held.found {
+        return held;
+    }
+    let mut marks = [0u8; 3061];
+    budget::mark(record::prices(job), record::wires(job), &mut marks);
+    cheaper(job, gates, &marks, needs, held)
 }
 
 // Whether no list of any length realizes the table: four data wires, no ancilla, an odd permutation.
@@ -237,20 +415,12 @@ fn first_good(job: &[u8]) -> Best
     ensures { λ r. ⌜ view r ≡ firstGood (now (job .entry)) ⌝ }
     ensures { λ r. ⌜ r .len ≤ 12 ⌝ }
 {
-    let held = no_circuit();
     if always_none(job) {
-        return held;
+        return no_circuit();
     }
-    let path = [0u8; 12];
-    dfs(
-        job,
-        task_of(job),
-        root(),
-        path,
-        0,
-        record::gate_limit(job),
-        held,
-    )
+    let wires = record::wires(job);
+    let gates = node::gate_table(wires);
+    deepened(job, &gates[..gate::gate_count(wires)])
 }
 
 // Byte 0 of the answer: the job's n and m.

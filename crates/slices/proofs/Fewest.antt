@@ -37,7 +37,7 @@ column-kept : (g : Gate) (cs : List ℕ) (w : ℕ) → (w ≡ g .target → ⊥)
 unfolding columnStep
 column-kept g cs w h = getD-set-other cs (g .target) w (bitXor (getD cs (g .target) 0) (firing (g .kind) cs)) 0 h
 
-missed-kept : (t : Wanted) (g : Gate) (cs : List ℕ) (w j : ℕ) → (w ≡ g .target → ⊥) → misses t (columnStep g cs) w j ≡ misses t cs w j
+pub missed-kept : (t : Wanted) (g : Gate) (cs : List ℕ) (w j : ℕ) → (w ≡ g .target → ⊥) → misses t (columnStep g cs) w j ≡ misses t cs w j
 unfolding misses
 missed-kept t g cs w j h = ap (λ c. bitAnd (bitXor c (getD (t .value) j 0)) (getD (t .care) j 0)) (column-kept g cs w h)
 
@@ -46,7 +46,7 @@ unfolding gateOf
 target-lt b h = parts 2 5 b h .target
 
 -- whether a layout misses output j
-abbrev missedOn : Wanted → ℕ → List ℕ → ℕ → Bool
+abbrev pub missedOn : Wanted → ℕ → List ℕ → ℕ → Bool
 missedOn t p cs j = missed t cs (wireOf p j) j
 
 module _ (t : Wanted) (n free p : ℕ) (width : (n ≡ 3) ⊎ (n ≡ 4)) (m : List·Memᴰ p (layoutsFor n free)) where
@@ -90,10 +90,11 @@ module _ (t : Wanted) (n free p : ℕ) (width : (n ≡ 3) ⊎ (n ≡ 4)) (m : Li
       let n4 : n ≤ 4 = ⊎-elim (λ e. omega arith) (λ e. omega arith) width in
       count-none (missedOn t p cs) n (λ j l. not-true (missed t cs (wireOf p j) j) (below 4 (fits t cs p) h j (omega arith)))
 
-pub lost-few : (job : List ℕ) → jobCode job ≡ 0 → (l e : List ℕ) → allOf (lawful 2 (wires job)) l ≡ true → allOf (lawful 2 (wires job)) e ≡ true
+-- what a layout misses before the last gates of a list that realizes the job is at most their number
+pub missed-few : (job : List ℕ) → jobCode job ≡ 0 → (l e : List ℕ) → allOf (lawful 2 (wires job)) l ≡ true → allOf (lawful 2 (wires job)) e ≡ true
     → (p : ℕ) → List·Memᴰ p (layoutsFor (dataWires job) (freeLayout job)) → realizes job p (l ++ e) ≡ true
-    → lost (wantedOf job) (columnsAfter l startColumns) (dataWires job) (freeLayout job) ≤ length e
-lost-few job hj l e hl he p m r =
+    → countBelow (dataWires job) (missedOn (wantedOf job) p (columnsAfter l startColumns)) ≤ length e
+missed-few job hj l e hl he p m r =
     let t = wantedOf job in
     let n = dataWires job in
     let free = freeLayout job in
@@ -103,7 +104,16 @@ lost-few job hj l e hl he p m r =
     let k = ap (λ cs. met t cs p) h ∙ met-realizes job hj (l ++ e) hle p ∙ r in
     omega (
       arith,
-      lost-missed t n free p width m (columnsAfter l startColumns),
       missed-run t n free p width m e (columnsAfter l startColumns) (all-widen (wires job) (wires-most job hj) e he),
       met-none t n free p width m (columnsAfter e (columnsAfter l startColumns)) k,
+    )
+
+pub lost-few : (job : List ℕ) → jobCode job ≡ 0 → (l e : List ℕ) → allOf (lawful 2 (wires job)) l ≡ true → allOf (lawful 2 (wires job)) e ≡ true
+    → (p : ℕ) → List·Memᴰ p (layoutsFor (dataWires job) (freeLayout job)) → realizes job p (l ++ e) ≡ true
+    → lost (wantedOf job) (columnsAfter l startColumns) (dataWires job) (freeLayout job) ≤ length e
+lost-few job hj l e hl he p m r =
+    omega (
+      arith,
+      lost-missed (wantedOf job) (dataWires job) (freeLayout job) p (sound-job job hj .width) m (columnsAfter l startColumns),
+      missed-few job hj l e hl he p m r,
     )

@@ -8,13 +8,15 @@ use lib.Seq.{take-all}
 use Rattle.choice.specs.Choices.{attempt, Choice, improve}
 use Rattle.record.specs.Layouts.{layoutsFor}
 use Rattle.best.specs.Inner.{view}
-use Rattle.search.specs.Outcomes.{choiceOf, good}
-use Rattle.search.proofs.Nodes.{outputs-are, here-is, layouts-turn}
+use Rattle.node.proofs.Nodes.{outputs-are}
+use Rattle.search.specs.Outcomes.{choiceOf}
+use Rattle.search.specs.Inner.{within}
+use Rattle.search.proofs.Nodes.{here-is, layouts-turn}
 use Rattle.search.proofs.consider.Statement.{statement}
 use Rattle.search.proofs.consider.Tie as tie
 
 abbrev Inv-loop : tie.InvT-loop
-Inv-loop job task s path n count b₀ i₀ b i = (i ≤ count) × ((count ≡ length (layoutsFor (task .outputs) (task .free))) × ((b .len ≤ 12) × (view b ≡ improve (good job) (view b₀) (map (choiceOf job (take n path)) (take i (layoutsFor (task .outputs) (task .free)))))))
+Inv-loop job task s path n count b₀ i₀ b i = (i ≤ count) × ((count ≡ length (layoutsFor (task .outputs) (task .free))) × ((b .len ≤ 12) × (view b ≡ improve (within job (task .«cost_limit»)) (view b₀) (map (choiceOf job (take n path)) (take i (layoutsFor (task .outputs) (task .free)))))))
 
 abbrev μ-loop : tie.MeasureT-loop
 μ-loop job task s path n count b₀ i₀ b i = count - i
@@ -55,9 +57,9 @@ loop-again c =
         k,
         (
           c .try-layout .ensures .1,
-          layouts-turn (good job) (choiceOf job l) (layoutsFor (s .args .task .outputs) (s .args .task .free)) (p .loop .i)
+          layouts-turn (within job (s .args .task .«cost_limit»)) (choiceOf job l) (layoutsFor (s .args .task .outputs) (s .args .task .free)) (p .loop .i)
               (view (s .args .best)) (view (p .loop .b)) (view (c .try-layout .result)) (omega arith) (i .1 .1 .1)
-              (c .try-layout .ensures .0 ∙ ap (λ (q : ℕ). attempt (good job) (view (p .loop .b)) (choiceOf job l q)) (c .before .layout-at .ensures)),
+              (c .try-layout .ensures .0 ∙ ap (λ (q : ℕ). attempt (within job (s .args .task .«cost_limit»)) (view (p .loop .b)) (choiceOf job l q)) (c .before .layout-at .ensures)),
         ),
       ),
     )
@@ -70,8 +72,8 @@ returns c =
     let h = c .loop-test .left in
     let ls = layoutsFor (s .args .task .outputs) (s .args .task .free) in (
       i .1 .1 .1
-          ∙ ap (λ (l : List ℕ). improve (good (s .args .job .now)) (view (s .args .best)) (map (choiceOf (s .args .job .now) (take (s .args .n) (s .args .path))) l)) (take-all (p .loop .i) ls (omega (arith, i .1 .0)))
-          ∙ ap (λ (l : List Choice). improve (good (s .args .job .now)) (view (s .args .best)) l) (here-is (s .args .job .now) (s .args .task) (s .args .s) (s .args .path) (s .args .n) (s .pre .0)),
+          ∙ ap (λ (l : List ℕ). improve (within (s .args .job .now) (s .args .task .«cost_limit»)) (view (s .args .best)) (map (choiceOf (s .args .job .now) (take (s .args .n) (s .args .path))) l)) (take-all (p .loop .i) ls (omega (arith, i .1 .0)))
+          ∙ ap (λ (l : List Choice). improve (within (s .args .job .now) (s .args .task .«cost_limit»)) (view (s .args .best)) l) (here-is (s .args .job .now) (s .args .task) (s .args .s) (s .args .path) (s .args .n) (s .pre .0)),
       i .1 .1 .0,
     )
 

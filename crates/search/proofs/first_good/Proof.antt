@@ -1,45 +1,40 @@
-use mathlib.Core.Path.{sym, ap, _∙_}
-use mathlib.Core.List.{[]}
-use mathlib.Core.Option.{Option}
-use Prim.Native.Nat.{ℕ}
+use mathlib.Core.Path.{_≡_, sym, ap, _∙_}
+use Prim.Native.Nat.{ℕ, _≤_}
 use native.Mathlib.Omega.{arith}
 use borrow.Author.Needs.{needs}
-use Rattle.record.specs.Jobs.{gateLimit}
-use Rattle.record.proofs.Kept.{sound-job}
-use Rattle.slices.proofs.Realized.{job-short}
-use Rattle.choice.specs.Choices.{Choice}
-use Rattle.best.specs.Inner.{view}
-use Rattle.search.specs.Inner.{lookedUnder}
-use Rattle.search.proofs.Answer.{odd-nothing, at-root, looked-all}
+use lib.ListN.{length, take}
+use lib.Seq.{length-take-le}
+use Rattle.gate.specs.Gates.{gatesFor}
+use Rattle.record.specs.Jobs.{wires}
+use Rattle.node.proofs.Nodes.{wires-within, gates-most}
+use Rattle.search.proofs.Answer.{odd-nothing}
 use Rattle.search.proofs.first_good.Statement.{statement}
 use Rattle.search.proofs.first_good.Tie as tie
 
 returns : tie.Need-returns
 returns c =
     let s = c .before .before .before .before in
-    (c .before .before .no-circuit .ensures .0 ∙ sym (odd-nothing (s .args .job .now) (s .pre) (sym (c .before .always-none .ensures) ∙ c .if1 .taken)), c .before .before .no-circuit .ensures .1)
+    (c .no-circuit .ensures .0 ∙ sym (odd-nothing (s .args .job .now) (s .pre) (sym (c .before .before .always-none .ensures) ∙ c .before .if1 .taken)), c .no-circuit .ensures .1 .1)
 
-task-of-requires : tie.Need-task-of-requires
-task-of-requires c κs = let s = c .before .before .before .before in job-short (s .args .job .now) (s .pre)
+-- the widths that a job can have
+width : (c : tie.After-wires) → (3 ≤ c .wires .result) × (c .wires .result ≤ 5)
+width c = let s = c .before .before .before .before in rw (c .wires .ensures .0) (wires-within (s .args .job .now) (s .pre))
 
-dfs-requires : tie.Need-dfs-requires
-dfs-requires c κs =
+-- the table is long enough
+long : (c : tie.After-gate-count) → c .gate-count .result ≤ length (c .before .gate-table .result)
+long c =
+    let l : length (c .before .gate-table .result) ≡ 55 = search needs in
+    let v = width (c .before .before) in
+    omega (arith, c .gate-count .ensures, gates-most (c .before .before .wires .result) (v .0) (v .1))
+
+deepened-requires : tie.Need-deepened-requires
+deepened-requires c κs =
     let s = c .before .before .before .before .before .before .before in
-    let job = s .args .job .now in
-    let l = sound-job job (s .pre) .limit in
-    let g = c .gate-limit .ensures in
-    (at-root job (c .before .before .task-of .result) (c .before .root .result) _ (s .pre) (c .before .before .task-of .ensures) (c .before .root .ensures job), (omega arith, c .before .before .before .before .before .no-circuit .ensures .1))
-
-returns-2 : tie.Need-returns-2
-returns-2 c =
-    let s = c .before .before .before .before .before .before .before .before in
-    let job = s .args .job .now in
-    let held = c .before .before .before .before .before .before .no-circuit in (
-      c .dfs .ensures .0
-          ∙ ap (λ (k : ℕ). lookedUnder job [] k (view (held .result))) (c .before .gate-limit .ensures)
-          ∙ ap (λ (x : Option Choice). lookedUnder job [] (gateLimit job) x) (held .ensures .0)
-          ∙ looked-all job,
-      c .dfs .ensures .1,
+    let w = c .before .before .before .wires .ensures .0 in (
+      s .pre,
+      ap (λ (k : ℕ). take k (c .before .before .gate-table .result)) (c .before .gate-count .ensures)
+          ∙ c .before .before .gate-table .ensures
+          ∙ ap (λ (k : ℕ). gatesFor 2 k) w,
     )
 
 pub first-good-spec : {M : Type 1} → statement M
@@ -49,8 +44,10 @@ first-good-spec =
     (λ c κs. search needs)
     (λ c κs. search needs)
     returns
-    task-of-requires
     (λ c κs. search needs)
-    (λ c κs. search needs)
-    dfs-requires
-    returns-2)
+    (λ c κs. width c)
+    (λ c κs. width (c .before))
+    long
+    (λ c. sym (length-take-le (c .before .gate-count .result) (c .before .before .gate-table .result) (long (c .before))))
+    deepened-requires
+    (λ c. search needs))

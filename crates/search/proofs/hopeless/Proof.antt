@@ -3,7 +3,7 @@ use native.Mathlib.Omega.{arith}
 use borrow.Author.Tests.{ltb-true}
 use borrow.Author.Needs.{needs}
 use lib.ListN.{length}
-use Rattle.search.proofs.Cuts.{at-limit, at-depth, at-cost, at-gates, at-lost}
+use Rattle.search.proofs.Cuts.{at-limit, at-depth, at-cost, at-gates}
 use Rattle.search.proofs.hopeless.Statement.{statement}
 use Rattle.search.proofs.hopeless.Tie as tie
 
@@ -26,13 +26,8 @@ returns-3 c =
 
 returns-4 : tie.Need-returns-4
 returns-4 c =
-    let s = c .before .before .before .before .before .before .before .before in
-    λ _. at-depth (s .args .job .now) (s .args .task) (s .args .s) (s .args .path) (s .args .n) (s .pre .0) (s .args .remaining) _ (omega (arith, c .before .before .latest .ensures))
-
-returns-5 : tie.Need-returns-5
-returns-5 c =
-    let s = c .before .before .before .before .before .before .before .before .before .before .before in
-    λ t. at-lost (s .args .job .now) (s .args .task) (s .args .s) (s .args .path) (s .args .n) (s .pre .0) (s .args .remaining) _ (rw (← c .lost .ensures .0) (ltb-true _ _ t))
+    let s = c .before .before .before .before .before .before .before in
+    λ t. at-depth (s .args .job .now) (s .args .task) (s .args .s) (s .args .path) (s .args .n) (s .pre .0) (s .args .remaining) _ (rw (← c .before .latest .ensures) (ltb-true _ _ t))
 
 pub hopeless-spec : {M : Type 1} → statement M
 hopeless-spec =
@@ -44,6 +39,4 @@ hopeless-spec =
     returns-3
     (λ c κs. search needs)
     (λ c. search needs)
-    returns-4
-    (λ c κs. search needs)
-    returns-5)
+    returns-4)

@@ -6,7 +6,7 @@ use Rattle.search.proofs.no_circuit.Tie as tie
 
 returns : tie.Need-returns
 unfolding view
-returns c = (refl, omega arith)
+returns c = (refl, (refl, omega arith))
 
 pub no-circuit-spec : {M : Type 1} → statement M
 no-circuit-spec = tie.close (tie.spec returns)

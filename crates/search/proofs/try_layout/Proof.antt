@@ -10,7 +10,8 @@ use Rattle.slices.specs.Wanted.{met}
 use Rattle.choice.specs.Choices.{keep}
 use Rattle.best.specs.Inner.{view}
 use Rattle.choice.proofs.First.{attempt-not}
-use Rattle.search.specs.Outcomes.{choiceOf, good}
+use Rattle.search.specs.Outcomes.{choiceOf}
+use Rattle.search.specs.Inner.{within}
 use Rattle.search.proofs.Nodes.{attempt-good, good-is, mine-is}
 use Rattle.search.proofs.try_layout.Statement.{statement}
 use Rattle.search.proofs.try_layout.Tie as tie
@@ -18,7 +19,7 @@ use Rattle.search.proofs.try_layout.Tie as tie
 -- what the two tests come to
 tested : (c : tie.After-both2)
     → let s = c .before .before .before .before .before .before .before .before .before .before .before in
-    c .both2 .result ≡ good (s .args .job .now) (choiceOf (s .args .job .now) (take (s .args .n) (s .args .path)) (s .args .p))
+    c .both2 .result ≡ within (s .args .job .now) (s .args .task .«cost_limit») (choiceOf (s .args .job .now) (take (s .args .n) (s .args .path)) (s .args .p))
 tested c =
     let s = c .before .before .before .before .before .before .before .before .before .before .before in
     let e : c .both2 .result ≡ both (met (s .args .task .wanted) (s .args .s .columns) (s .args .p)) (both (leb (s .args .s .cost) (s .args .task .«cost_limit»)) (leb (greatest (s .args .s .times)) (s .args .task .«depth_limit»))) = cc in
@@ -28,7 +29,7 @@ returns : tie.Need-returns
 returns c =
     let s = c .before .before .before .before .before .before .before .before .before .before .before .before in
     let job = s .args .job .now in
-    (sym (attempt-not (good job) (view (s .args .best)) (choiceOf job (take (s .args .n) (s .args .path)) (s .args .p)) (sym (tested (c .before)) ∙ not-true _ (c .if1 .taken))), s .pre .1 .1)
+    (sym (attempt-not (within job (s .args .task .«cost_limit»)) (view (s .args .best)) (choiceOf job (take (s .args .n) (s .args .path)) (s .args .p)) (sym (tested (c .before)) ∙ not-true _ (c .if1 .taken))), s .pre .1 .1)
 
 returns-2 : tie.Need-returns-2
 returns-2 c =
@@ -38,7 +39,7 @@ returns-2 c =
     let hn = s .pre .1 .0 in
     let m = mine-is job (s .args .task) (s .args .s) (s .args .path) (s .args .n) (s .pre .0) (s .args .p) _ (omega arith) refl (c .before .before .before .before .before .before .before .before .latest .ensures) refl refl refl in (
       c .offer .ensures .0 ∙ ap (keep (view (s .args .best))) m
-          ∙ sym (attempt-good (good job) (view (s .args .best)) (choiceOf job (take (s .args .n) (s .args .path)) (s .args .p)) (sym (tested (c .before .before)) ∙ not-false _ (c .before .if1 .left))),
+          ∙ sym (attempt-good (within job (s .args .task .«cost_limit»)) (view (s .args .best)) (choiceOf job (take (s .args .n) (s .args .path)) (s .args .p)) (sym (tested (c .before .before)) ∙ not-false _ (c .before .if1 .left))),
       c .offer .ensures .1,
     )
 

@@ -4,10 +4,10 @@ use Prim.Native.Nat.{ℕ}
 use borrow.Author.Needs.{needs}
 use Rattle.logic.specs.Lists.{total, along}
 use Rattle.circuit.specs.Measure.{idle}
-use Rattle.search.specs.declared.Node.{Node}
-use Rattle.search.specs.Inner.{nodeOf}
-use Rattle.search.proofs.root.Statement.{statement}
-use Rattle.search.proofs.root.Tie as tie
+use Rattle.node.specs.declared.Node.{Node}
+use Rattle.node.specs.States.{nodeOf}
+use Rattle.node.proofs.root.Statement.{statement}
+use Rattle.node.proofs.root.Tie as tie
 
 returns : tie.Need-returns
 unfolding nodeOf total along

@@ -2,9 +2,9 @@ use native.Mathlib.Omega.{arith}
 use native.Mathlib.Nat.{le-trans}
 use borrow.Author.Needs.{needs}
 use Rattle.circuit.proofs.Times.{hold-until}
-use Rattle.search.specs.Inner.{advanced}
-use Rattle.search.proofs.advance.Statement.{statement}
-use Rattle.search.proofs.advance.Tie as tie
+use Rattle.node.specs.States.{advanced}
+use Rattle.node.proofs.advance.Statement.{statement}
+use Rattle.node.proofs.advance.Tie as tie
 
 returns : tie.Need-returns
 unfolding advanced

@@ -1,0 +1,143 @@
+"""The question "is there a circuit of at most K gates?" for a SAT solver, as a CNF.
+
+A CNF is a list of clauses, a clause a list of literals: a variable, or minus it. Variables:
+ - one for each position and lawful gate, and one for the position left idle: exactly one is on
+   (idle positions come last, so K positions hold at most K gates);
+ - one for each position, row and wire: the wire's value before that position, and at the end;
+ - helpers: for each position which wire is the target and which are controls, and in each row
+   whether a control is 0 and whether the target flips;
+ - free layout: one for each output and data wire, a one-to-one choice.
+The first values are the row's bits, and 0 for the ancilla; its end value is free. Of two
+neighbouring gates that commute the first has the lower byte (a circuit of fewest gates has such
+an order, and no gate twice in a row), which is the only symmetry broken.
+"""
+
+
+def lawful_gates(wires):
+    def lawful(byte):
+        target, controls = byte >> 5, byte & 31
+        in_range = target < wires and controls >> wires == 0
+        return in_range and not controls >> target & 1 and bin(controls).count("1") <= 2
+
+    return [byte for byte in range(256) if lawful(byte)]
+
+
+def commute(a, b):
+    """Neither gate's target is a control of the other."""
+    return not (a & 31) >> (b >> 5) & 1 and not (b & 31) >> (a >> 5) & 1
+
+
+class Question:
+    """At most `positions` gates for the table of a job's row bytes (care mask, value)."""
+
+    def __init__(self, n, m, free, rows, positions):
+        self.n, self.free, self.rows = n, free, rows
+        self.wires = n + m
+        self.gates = lawful_gates(self.wires)
+        self.variables, self.clauses = 0, []
+        self.values = [[self.fresh(self.wires) for _ in rows] for _ in range(positions + 1)]
+        self.choices = [self.fresh(len(self.gates)) for _ in range(positions)]
+        self.idle = self.fresh(positions)
+        self.start()
+        for position in range(positions):
+            self.choose(position)
+            self.step(position)
+        self.end()
+
+    def fresh(self, count):
+        self.variables += count
+        return list(range(self.variables - count + 1, self.variables + 1))
+
+    def say(self, *clause):
+        self.clauses.append(clause)
+
+    def exactly_one(self, literals):
+        self.say(*literals)
+        for i, a in enumerate(literals):
+            for b in literals[:i]:
+                self.say(-a, -b)
+
+    def any_of(self, literals):
+        """A new variable that is on exactly when one of the literals is."""
+        (either,) = self.fresh(1)
+        self.say(-either, *literals)
+        for literal in literals:
+            self.say(either, -literal)
+        return either
+
+    def start(self):
+        for x, values in enumerate(self.values[0]):
+            for wire, value in enumerate(values):
+                self.say(value if x >> wire & 1 else -value)
+
+    def choose(self, position):
+        self.exactly_one([self.idle[position]] + self.choices[position])
+        if position == 0:
+            return
+        self.say(-self.idle[position - 1], self.idle[position])
+        for a, first in zip(self.gates, self.choices[position - 1]):
+            for b, second in zip(self.gates, self.choices[position]):
+                if b <= a and commute(a, b):
+                    self.say(-first, -second)
+
+    def step(self, position):
+        chosen = list(zip(self.gates, self.choices[position]))
+        targets = [self.any_of([v for g, v in chosen if g >> 5 == i]) for i in range(self.wires)]
+        controls = [self.any_of([v for g, v in chosen if g >> i & 1]) for i in range(self.wires)]
+        for before, after in zip(self.values[position], self.values[position + 1]):
+            blocks = self.fresh(self.wires)  # wire i is a control and 0
+            for block, control, value in zip(blocks, controls, before):
+                self.say(-block, control)
+                self.say(-block, -value)
+                self.say(block, -control, value)
+            held = self.any_of(blocks)
+            for target, old, new in zip(targets, before, after):
+                for kept in (target, -held):
+                    self.say(kept, -old, new)
+                    self.say(kept, old, -new)
+                self.say(-target, held, old, new)
+                self.say(-target, held, -old, -new)
+
+    def end(self):
+        n = self.n
+        if self.free:
+            places = [self.fresh(n) for _ in range(n)]
+            for j in range(n):
+                self.exactly_one(places[j])
+                self.exactly_one([places[i][j] for i in range(n)])
+        for values, row in zip(self.values[-1], self.rows):
+            for j in (j for j in range(n) if row >> (4 + j) & 1):
+                for wire in range(n) if self.free else [j]:
+                    literal = values[wire] if row >> j & 1 else -values[wire]
+                    self.say(*([-places[j][wire]] if self.free else []), literal)
+
+    def dimacs(self):
+        lines = [f"p cnf {self.variables} {len(self.clauses)}"]
+        lines += [" ".join(map(str, clause)) + " 0" for clause in self.clauses]
+        return "\n".join(lines).encode() + b"\n"
+
+    def circuit(self, output):
+        """The gate bytes that the solver's `v` lines name."""
+        lines = (line[1:].split() for line in output.splitlines() if line.startswith("v"))
+        on = {int(word) for line in lines for word in line}
+        return [gate for row in self.choices for gate, v in zip(self.gates, row) if v in on]
+
+
+def realizes(n, free, rows, gates):
+    """Whether the gate list meets the table, with some layout if free."""
+    ends = []
+    for value in range(1 << n):
+        for gate in gates:
+            if value & gate & 31 == gate & 31:
+                value ^= 1 << (gate >> 5)
+        ends.append(value)
+
+    def place(j, used):
+        """Whether the outputs from j on can have wires that aren't used."""
+        def holds(wire):
+            return all(not row >> (4 + j) & 1 or end >> wire & 1 == row >> j & 1 for end, row in zip(ends, rows))
+
+        wires = [wire for wire in (range(n) if free else [j]) if wire not in used] if j < n else []
+        return j == n or any(holds(wire) and place(j + 1, used | {wire}) for wire in wires)
+
+    return place(0, frozenset())

@@ -1,0 +1,2 @@
+pub mod Afford
+pub mod Sums

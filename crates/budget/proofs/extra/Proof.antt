@@ -1,0 +1,12 @@
+use native.Mathlib.Omega.{arith}
+use borrow.Author.Needs.{needs}
+use Rattle.budget.specs.Afford.{extraOf}
+use Rattle.budget.proofs.extra.Statement.{statement}
+use Rattle.budget.proofs.extra.Tie as tie
+
+returns : tie.Need-returns
+unfolding extraOf
+returns c = (cc, omega arith)
+
+pub extra-spec : {M : Type 1} → statement M
+extra-spec = tie.close (tie.spec (λ c κs. search needs) (λ c κs. search needs) (λ c κs. search needs) returns)

@@ -1,0 +1,3 @@
+pub mod Heavy
+pub mod Afford
+pub mod Sums

@@ -1,0 +1,20 @@
+use borrow.Author.Needs.{needs}
+use Rattle.rules.specs.Inner.{hasOutput}
+use Rattle.rules.proofs.has_output.Statement.{statement}
+use Rattle.rules.proofs.has_output.Tie as tie
+
+returns : tie.Need-returns
+unfolding hasOutput
+returns c = cc
+
+pub has-output-spec : {M : Type 1} → statement M
+has-output-spec =
+    tie.close
+    (tie.spec
+    (λ c. search needs)
+    (λ c. search needs)
+    (λ c. search needs)
+    (λ c. search needs)
+    (λ c. search needs)
+    (λ c. search needs)
+    returns)

@@ -1,0 +1,7 @@
+pub mod Xor
+pub mod Clearing
+pub mod Spanned
+pub mod Run
+pub mod Elimination
+pub mod Spelled
+pub mod Fewest

@@ -1,0 +1,28 @@
+use mathlib.Core.Path.{_≡_, ap}
+use lib.ListN.{length}
+use Rattle.span.specs.Span.{first}
+use Rattle.span.proofs.Spelled.{spelled}
+use borrow.Author.Needs.{needs}
+use Rattle.span.proofs.first.Statement.{statement}
+use Rattle.span.proofs.first.Tie as tie
+
+returns : tie.Need-returns
+unfolding first
+returns c =
+    let s = c .before .before .before .before in
+    let l : length (s .args .t3) ≡ 4 = search needs in
+    cc (ap (first 0 (s .args .n) (s .args .d)) (spelled (s .args .t3) 4 l))
+
+pub first-spec : {M : Type 1} → statement M
+first-spec =
+    tie.close
+    (tie.spec
+    (λ c. search needs)
+    (λ c κs. search needs)
+    (λ c. search needs)
+    (λ c κs. search needs)
+    (λ c. search needs)
+    (λ c κs. search needs)
+    (λ c. search needs)
+    (λ c κs. search needs)
+    returns)

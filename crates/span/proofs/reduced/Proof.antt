@@ -1,0 +1,29 @@
+use mathlib.Core.Path.{_≡_, ap}
+use lib.ListN.{length}
+use Rattle.logic.specs.Lists.{along}
+use Rattle.span.specs.Span.{clear}
+use Rattle.span.proofs.Spelled.{spelled}
+use borrow.Author.Needs.{needs}
+use Rattle.span.proofs.reduced.Statement.{statement}
+use Rattle.span.proofs.reduced.Tie as tie
+
+returns : tie.Need-returns
+unfolding along
+returns c =
+    let s = c .before .before in
+    let l : length (s .args .t1) ≡ 6 = search needs in
+    cc (ap (λ m. along clear m (s .args .x)) (spelled (s .args .t1) 6 l))
+
+pub reduced-spec : {M : Type 1} → statement M
+reduced-spec =
+    tie.close
+    (tie.spec
+    (λ c. search needs)
+    (λ c. search needs)
+    (λ c. search needs)
+    (λ c κs. search needs)
+    (λ c. search needs)
+    (λ c. search needs)
+    (λ c. search needs)
+    (λ c κs. search needs)
+    returns)

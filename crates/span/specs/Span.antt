@@ -1,0 +1,47 @@
+-- How many outputs no XOR of the columns gives: each wants a vector that only a gate of two or more controls adds. A vector is a column
+-- on the rows that want every output.
+use mathlib.Core.List.{List, [], _∷_, _++_}
+use Prim.Native.Nat.{ℕ, suc, min}
+use lib.Bits.{bitAnd, bitXor}
+use lib.Dec.{eqb, ltb}
+use Rattle.logic.specs.Rules.{pick}
+use Rattle.logic.specs.Lists.{along, total}
+use Rattle.slices.specs.declared.Wanted.{Wanted}
+
+-- x with b XORed in where that makes it less, which is where x has the highest one of b
+unfoldable pub clear : ℕ → ℕ → ℕ
+clear b x = min x (bitXor x b)
+
+-- what is left of x when the vectors of a basis, in their order, are cleared from it
+abbrev pub reduced : List ℕ → ℕ → ℕ
+reduced basis x = along clear basis x
+
+-- what is left of each column on the rows, by a basis and what is left of the columns before it; with that the basis spans the columns
+unfoldable pub rests : ℕ → List ℕ → List ℕ → List ℕ
+rests rows [] basis = []
+rests rows (c ∷ cs) basis = reduced basis (bitAnd rows c) ∷ rests rows cs (basis ++ (reduced basis (bitAnd rows c) ∷ []))
+
+-- 1 where something is left
+unfoldable pub one : ℕ → ℕ
+one y = pick (eqb y 0) 0 1
+
+-- how many of the columns are independent modulo the basis
+unfoldable pub fresh : ℕ → List ℕ → List ℕ → ℕ
+fresh rows columns basis = total one (rests rows columns basis)
+
+-- the columns of the first n outputs, from output j on, and d for the others
+unfoldable pub first : ℕ → ℕ → ℕ → List ℕ → List ℕ
+first j n d [] = []
+first j n d (c ∷ cs) = pick (ltb j n) c d ∷ first (suc j) n d cs
+
+-- the rows in which each of the first n outputs is wanted
+unfoldable pub fullRows : Wanted → ℕ → ℕ
+fullRows t n = along bitAnd (first 0 n 65535 (t .care)) 65535
+
+-- what gates of at most one control XOR together: the wires' columns and the column of ones
+abbrev pub generators : List ℕ → List ℕ
+generators cs = 65535 ∷ cs
+
+-- how many of the first n outputs are independent modulo the columns
+unfoldable pub needed : Wanted → List ℕ → ℕ → ℕ
+needed t cs n = fresh (fullRows t n) (first 0 n 0 (t .value)) (rests (fullRows t n) (generators cs) [])

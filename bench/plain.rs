@@ -4,17 +4,26 @@
 //! Run: plain [--rules base|full|max] [--stats] [--reach FROM,RADIUS]
 //!
 //! A state holds one column per wire; bit x of a column is the wire's value in row x.
-//! Rules, named as in search-rules.md:
+//! The levels of rules:
 //!   base  one depth-first search with cuts: cost above the limit or the best; cost equal to
 //!         the best and more gates; ready times above the depth limit; B1 on outputs.
-//!   full  F (the least number of gates first, and its best list), then I1 and I2 (deepening on
-//!         cost, then on gates, below that list's cost). In a run: cost and gates against the
-//!         run's and the best's, the depth limit, B3 (affine span, greatest number of gates
-//!         that the budget allows), B1 on outputs, and B1 and B2 in one test before each gate.
-//!   max   I1, I2, F only for equal prices, B1 on outputs and wires, B2, B3, E1 (a run looks
-//!         only at lists of exactly its cost and its gates), N1 (one gate that changes
-//!         nothing), N2, N3, B4, B5 (m = 0).
+//!   full  the rules of the proved program: F (the least number of gates first, and its best
+//!         list), then I1 and I2 (deepening on cost, then on gates, below that list's cost). In
+//!         a run: cost and gates against the run's and the best's, the depth limit, B3, B1 on
+//!         outputs, and B1 and B2 in one test before each gate.
+//!   max   I1, I2, F only for equal prices, B1 on outputs and wires, B2, B3, E1, N1, N2, N3, B4
+//!         and B5 (m = 0).
 //! An odd table on four wires is infeasible (parity) at every level, before any search.
+//! The rules:
+//!   B1  outputs that no wire matches (or wires that match no output) want a gate each;
+//!   B2  where all gates to come are wanted so, the next one gives a wire its output;
+//!   B3  affine span: the Toffolis still needed, and the most gates that the budget allows;
+//!   B4  a lossy set of the states within some gates of the target;
+//!   B5  the same of these states less one wire, and less two;
+//!   E1  a run looks only at lists of exactly its cost and its gates;
+//!   N1  no gate that changes nothing;
+//!   N2  no gate twice with only gates between that commute with it;
+//!   N3  gates on disjoint wires in byte order.
 use std::io::Read;
 
 const ONES: usize = 5; // the column of an absent control

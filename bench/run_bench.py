@@ -232,7 +232,7 @@ The making of the CNF (sat.py) isn't counted. sat/proved: both questions togethe
 def main():
     parser = argparse.ArgumentParser(description="The proved search, the plain one and a SAT solver side by side.")
     parser.add_argument("main_binary", help="the proved program, or - for the others alone")
-    parser.add_argument("--rules", choices=["base", "full", "max"], help="of plain.rs: base, with --sboxes full")
+    parser.add_argument("--rules", choices=["base", "full", "max"], default="full", help="of plain.rs; full has the rules of the program")
     parser.add_argument("--sboxes", action="store_true", help="the S-boxes of 002 at limit 12")
     parser.add_argument("--no-sat", action="store_true", help="leave the SAT solver out")
     parser.add_argument("--cap", type=float, help="seconds for a job and program: 60, with --sboxes 20")
@@ -240,7 +240,7 @@ def main():
     parser.add_argument("--only", default="", help="only the jobs whose name holds this text")
     parser.add_argument("--target", help="folder for the compiled plain.rs")
     args = parser.parse_args()
-    rules = args.rules or ("full" if args.sboxes else "base")
+    rules = args.rules
     cap = args.cap or (20 if args.sboxes else 60)
     if hasattr(os, "sched_setaffinity"):
         os.sched_setaffinity(0, {max(os.sched_getaffinity(0))})

@@ -26,6 +26,8 @@ ODD_TABLE = list(range(7)) + [15] + list(range(8, 15)) + [7]  # rows 7 and 15 ex
 EXCHANGE_3_7 = [0, 1, 2, 7, 4, 5, 6, 3]
 PROST = [int(digit, 16) for digit in "048F15E927ACBD63"]
 GIFT = [int(digit, 16) for digit in "1A4C6F392DB7508E"]
+LBLOCK = [int(digit, 16) for digit in "E9F0D4AB128376C5"]
+UBLOCK = [int(digit, 16) for digit in "749CBAD8FE160325"]
 NO_LIMIT = 0xFFFF
 
 
@@ -175,7 +177,7 @@ class Vectors:
             if source == "theorem":
                 line = "refused 14"
             else:
-                command = [self.brute] if source == "brute" else [self.plain, "--rules", "full"]
+                command = [self.brute] if source == "brute" else [self.plain, "--rules", source]
                 run = subprocess.run(command, input=record, stdout=subprocess.PIPE, check=True)
                 line = run.stdout.decode().strip()
             self.known[record, source] = line
@@ -535,6 +537,20 @@ def random_jobs(v):
         v.search(bytes.fromhex(record))
 
 
+def sboxes(v):
+    """Expected: plain.rs at its other level, which has rules that the program does not have."""
+    v.heading("real S-boxes at gate limit 12: 8 gates, and LBLOCK with fixed layout 9; prices 1,1,1 and 1,1,5")
+    for table, layouts in ((GIFT, (1,)), (LBLOCK, (0, 1)), (UBLOCK, (0, 1))):
+        for free in layouts:
+            for prices in ((1, 1, 1), (1, 1, 5)):
+                v.search(job(table, 12, free=free, prices=prices), source="max")
+    v.heading("the same within cost 23, and within depth 30: none; UBLOCK at prices 0,0,1 and 3,2,2")
+    v.search(job(UBLOCK, 8, cost=23), source="max")
+    v.search(job(UBLOCK, 8, depth=30), source="max")
+    v.search(job(UBLOCK, 8, prices=(0, 0, 1)), source="max")
+    v.search(job(UBLOCK, 8, prices=(3, 2, 2)), source="max")
+
+
 def main():
     parser = argparse.ArgumentParser()
     parser.add_argument("data")
@@ -548,7 +564,7 @@ def main():
             subprocess.run(["rustc", "-O", "-o", programs[-1], os.path.join(args.bench, name + ".rs")], check=True)
         vectors = Vectors(*programs)
         for part in (samples, refusals, buffers, limits, order, care, layouts, ancillas, small_tables,
-                     random_jobs):
+                     random_jobs, sboxes):
             part(vectors)
     for path, lines in ((args.data, vectors.calls), (args.stdout, vectors.lines)):
         os.makedirs(os.path.dirname(os.path.abspath(path)), exist_ok=True)

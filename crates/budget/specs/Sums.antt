@@ -1,18 +1,30 @@
--- Which costs a gate list can have: byte s of the marks is 1 where some list costs s.
+-- Which costs a gate list can have, and with how few gates: byte s of the marks is 0 where no list was found to cost s, else 1 more
+-- than the fewest gates found.
 use mathlib.Core.Path.{_≡_}
 use mathlib.Core.List.{List, List·Memᴰ}
-use Prim.Native.Nat.{ℕ, _+_, _<_}
+use Prim.Native.Nat.{ℕ, _+_, _≤_, _<_, min}
+use lib.Dec.{eqb}
 use lib.ListN.{length, getD, set}
+use Rattle.logic.specs.Rules.{pick}
 use Rattle.logic.specs.Lists.{along}
 
--- the marks after a 1 at each sum of s and a gate's price; past the end there is nothing to mark
-unfoldable pub spread : (ℕ → ℕ) → ℕ → List ℕ → List ℕ → List ℕ
-spread price s gates marks = along (λ g m. set m (s + price g) 1) gates marks
+-- the lesser of two marks, where 0 is none
+unfoldable pub fewer : ℕ → ℕ → ℕ
+fewer old new = pick (eqb old 0) new (min old new)
 
--- the empty list's cost is marked, and with each marked cost that of one gate more, as far as the marks go
-pub record Marked (price : ℕ → ℕ) (gates marks : List ℕ) : Type 0 where
+-- the marks after a new one is offered at cost c; past the end there is nothing to mark
+unfoldable pub offer : ℕ → ℕ → List ℕ → List ℕ
+offer c new marks = set marks c (fewer (getD marks c 0) new)
+
+-- the marks after one is offered at each sum of s and a gate's price
+unfoldable pub spread : (ℕ → ℕ) → ℕ → ℕ → List ℕ → List ℕ → List ℕ
+spread price s new gates marks = along (λ g. offer (s + price g) new) gates marks
+
+-- the empty list's cost is marked, and with each cost that leaves a gate of the limit that of one gate more, as far as the marks go
+pub record Marked (price : ℕ → ℕ) (gates : List ℕ) (limit : ℕ) (marks : List ℕ) : Type 0 where
   pub none : 0 < length marks → getD marks 0 0 ≡ 1
-  pub more : (s g : ℕ) → List·Memᴰ g gates → getD marks s 0 ≡ 1 → s + price g < length marks → getD marks (s + price g) 0 ≡ 1
+  pub more : (s g : ℕ) → List·Memᴰ g gates → 0 < getD marks s 0 → getD marks s 0 ≤ limit → s + price g < length marks
+      → (0 < getD marks (s + price g) 0) × (getD marks (s + price g) 0 ≤ getD marks s 0 + 1)
 
 -- every element of e is one of the gates
 abbrev pub Among : List ℕ → List ℕ → Type 0

@@ -3,11 +3,11 @@ use circuit::Weights;
 ghost use mathlib.Core.Path.{_≡_};
 ghost use Prim.Native.Nat.{_+_, _-_, _*_, _/_, _≤_, _<_, min};
 ghost use lib.Dec.{ltb};
-ghost use lib.ListN.{length, set};
+ghost use lib.ListN.{length};
 ghost use Rattle.gate.specs.Gates.{gatesFor};
 ghost use Rattle.circuit.specs.Measure.{weightOf};
 ghost use Rattle.budget.specs.Afford.{lowOf, extraOf, reach};
-ghost use Rattle.budget.specs.Sums.{spread, Marked};
+ghost use Rattle.budget.specs.Sums.{fewer, offer, spread, Marked};
 
 fn lesser(a: usize, b: usize) -> usize
     ensures { λ r. ⌜ r ≡ min a b ⌝ }
@@ -70,42 +70,55 @@ pub fn reach(low: usize, extra: usize, needed: usize, spare: usize, remaining: u
     lesser(remaining, quotient(above(spare, needed * extra), low))
 }
 
-// Marks one sum, where it is within the slice.
-fn mark_sum(s: usize, price: usize, marks: &mut [u8])
+// The lesser of two marks, where 0 is none.
+fn fewer(old: u8, new: u8) -> u8
+    ensures { λ r. ⌜ r ≡ fewer old new ⌝ }
+{
+    if old == 0 {
+        return new;
+    }
+    if old < new { old } else { new }
+}
+
+// Offers a mark to one sum, where it is within the slice.
+fn mark_sum(s: usize, price: usize, new: u8, marks: &mut [u8])
     requires { ⌜ s ≤ length (now marks) ⌝ }
-    ensures { λ _. ⌜ now (marks .exit) ≡ set (now (marks .entry)) (s + price) 1 ⌝ }
+    ensures { λ _. ⌜ now (marks .exit) ≡ offer (s + price) new (now (marks .entry)) ⌝ }
 {
     if price < marks.len() - s {
-        marks[s + price] = 1;
+        marks[s + price] = fewer(marks[s + price], new);
     }
 }
 
-// Marks the costs that one gate more makes of the cost `s`.
-fn mark_from(prices: Weights, wires: usize, s: usize, marks: &mut [u8])
+// Offers a mark to the costs that one gate more makes of the cost `s`.
+fn mark_from(prices: Weights, wires: usize, s: usize, new: u8, marks: &mut [u8])
     requires { ⌜ (3 ≤ wires) × (wires ≤ 5) ⌝ }
     requires { ⌜ s ≤ length (now marks) ⌝ }
-    ensures { λ _. ⌜ now (marks .exit) ≡ spread (weightOf prices) s (gatesFor 2 wires) (now (marks .entry)) ⌝ }
+    ensures { λ _. ⌜ now (marks .exit) ≡ spread (weightOf prices) s new (gatesFor 2 wires) (now (marks .entry)) ⌝ }
 {
     let count = gate::gate_count(wires);
     let mut i = 0;
     while i < count {
         let g = gate::gate_at(wires, i);
-        mark_sum(s, logic::wide(circuit::weight(prices, g)), marks);
+        mark_sum(s, logic::wide(circuit::weight(prices, g)), new, marks);
         i += 1;
     }
 }
 
-// Marks every cost below the slice's length that a list of gates on `wires` wires can have.
-pub fn mark(prices: Weights, wires: usize, marks: &mut [u8])
+// Marks every cost below the slice's length that a list of at most `limit` gates on `wires` wires can have.
+pub fn mark(prices: Weights, wires: usize, limit: usize, marks: &mut [u8])
     requires { ⌜ (3 ≤ wires) × (wires ≤ 5) ⌝ }
+    requires { ⌜ limit ≤ 12 ⌝ }
     ensures { λ _. ⌜ length (now (marks .exit)) ≡ length (now (marks .entry)) ⌝ }
-    ensures { λ _. ⌜ Marked (weightOf prices) (gatesFor 2 wires) (now (marks .exit)) ⌝ }
+    ensures { λ _. ⌜ Marked (weightOf prices) (gatesFor 2 wires) limit (now (marks .exit)) ⌝ }
 {
-    mark_sum(0, 0, marks);
+    mark_sum(0, 0, 1, marks);
     let mut s = 0;
     while s < marks.len() {
-        if marks[s] == 1 {
-            mark_from(prices, wires, s, marks);
+        let found = marks[s];
+        // a mark is 1 more than its gates, so one up to the limit leaves a gate
+        if logic::both(0 < found, logic::wide(found) <= limit) {
+            mark_from(prices, wires, s, found + 1, marks);
         }
         s += 1;
     }

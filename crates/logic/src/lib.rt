@@ -1,7 +1,7 @@
 // Rules as values: a chain of checks is one expression with no branch, and its proof is a rewrite.
 ghost use mathlib.Core.Path.{_≡_};
 ghost use lib.ListN.{getD, set};
-ghost use Rattle.logic.specs.Rules.{both, either, implies, rule, andThen};
+ghost use Rattle.logic.specs.Rules.{both, either, implies, pick, rule, andThen};
 
 // Whether both rules hold.
 pub fn both(a: bool, b: bool) -> bool
@@ -59,13 +59,22 @@ pub fn cell(cells: [u16; 5], i: usize) -> u16
     if i < 5 { cells[i] } else { 0 }
 }
 
-// The five numbers with `x` at `i`; the same five past the end.
+// One of two numbers.
+fn picked(first: bool, x: u16, y: u16) -> u16
+    ensures { λ r. ⌜ r ≡ pick first x y ⌝ }
+{
+    if first { x } else { y }
+}
+
+// The five numbers with `x` at `i`; the same five past the end. No write at a place known only when it runs: a copy right after one waits for it.
 pub fn with_cell(cells: [u16; 5], i: usize, x: u16) -> [u16; 5]
     ensures { λ r. ⌜ r ≡ set cells i x ⌝ }
 {
-    let mut next = cells;
-    if i < 5 {
-        next[i] = x;
-    }
-    next
+    [
+        picked(i == 0, x, cells[0]),
+        picked(i == 1, x, cells[1]),
+        picked(i == 2, x, cells[2]),
+        picked(i == 3, x, cells[3]),
+        picked(i == 4, x, cells[4]),
+    ]
 }

@@ -98,3 +98,6 @@ module _ (job : List ℕ) (task : Task) (s : Node) (path : List ℕ) (n : ℕ) (
   pub outputs-are : (task .outputs ≡ 3) ⊎ (task .outputs ≡ 4)
   unfolding taskOf
   outputs-are = rw (a .tasked) (sound-job job (a .sound) .width)
+
+  pub width : (3 ≤ task .outputs) × (task .outputs ≤ 4)
+  width = ⊎-elim (λ e. (omega arith, omega arith)) (λ e. (omega arith, omega arith)) outputs-are

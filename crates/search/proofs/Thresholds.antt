@@ -197,14 +197,15 @@ bought job sound needs limit least a m h c =
     (reach-most (prices job) (l .list) needs limit (gateLimit job) few (rw (cost-is job a (gateLimit job) l) at c) (l .short))
 
 -- a cost that is no sum of prices
-pub unmarked : (job marks : List ℕ) (c : ℕ) → Marked (priceOf job) (gatesOf job) marks → c < length marks → (getD marks c 0 ≡ 1 → ⊥) → Dearer job c → Dearer job (c + 1)
+pub unmarked : (job marks : List ℕ) (c : ℕ) → Marked (priceOf job) (gatesOf job) (gateLimit job) marks → c < length marks → getD marks c 0 ≡ 0 → Dearer job c → Dearer job (c + 1)
 unmarked job marks c marked short un dear = record {
   cost-least = λ a m h.
       let l = listed job (gateLimit job) a m in
       let e = cost-is job a (gateLimit job) l in
       ⊎-elim
       (λ (q : c ≡ a .cost).
-      absurd (un (rw (← e, ← q) at (sums-marked (priceOf job) (gatesOf job) marks marked (l .list) (l .among) (omega arith)))))
+      let k = rw (← e, ← q) at (sums-marked (priceOf job) (gatesOf job) marks (gateLimit job) marked (l .list) (l .among) (l .short) (omega arith)) in
+      absurd (omega arith))
       (λ (q : c < a .cost). omega arith)
       (eq-or-lt-of-le (dear .cost-least a m h));
 }

@@ -1,5 +1,5 @@
 -- The walk: what the recursion owes where it stops early, where it passes a gate over, after each gate, and at its end.
-use mathlib.Core.Path.{_≡_, refl, sym, ap}
+use mathlib.Core.Path.{_≡_, refl, sym, ap, ap₂, _∙_}
 use mathlib.Core.Bool.{Bool, true, false}
 use mathlib.Core.Logic.{_⊎_, ⊎-elim}
 use mathlib.Core.List.{List, [], _∷_, _++_, append-assoc, List·Memᴰ, Memᴰ·of-map}
@@ -26,6 +26,8 @@ use Rattle.choice.proofs.Enumeration.{under-zero, under-suc, under-is, flatMap-
 use Rattle.budget.specs.Heavy.{heavy, heavies}
 use Rattle.rules.specs.Worth.{worth}
 use Rattle.rules.proofs.Skips.{worth-not}
+use Rattle.mend.specs.Mend.{stuck}
+use Rattle.mend.proofs.Unfinished.{stuck-none}
 use Rattle.node.specs.declared.Task.{Task}
 use Rattle.node.specs.declared.Node.{Node}
 use Rattle.node.specs.States.{taskOf, nodeOf, At}
@@ -97,6 +99,29 @@ module _ (job : List ℕ) (limit : ℕ) (l : List ℕ) (remaining most : ℕ) (h
       sym (skip-all job limit sound (l ++ (g ∷ [])) (remaining - 1) x λ e he short p mp.
       let u = unfinished (g ∷ e) p (both-true hg he) mp (omega arith) (λ h q. worth-not job sound l g e kept hg he p mp most w h q) in
       rw (append-assoc, hx) (left-later (within job limit) held (choiceOf job (l ++ (g ∷ e)) p) m u))
+
+-- one gate further one gate fewer can come, and what is held may have improved
+pub enough-next : (job : List ℕ) (limit : ℕ) (l : List ℕ) (remaining most g : ℕ) (held x : Option Choice) (m : List Choice)
+    → Enough job limit l remaining most held → lawful 2 (wires job) g ≡ true → 0 < remaining → x ≡ improve (within job limit) held m
+    → Enough job limit (l ++ (g ∷ [])) (remaining - 1) (most - 1) x
+unfolding allOf
+enough-next job limit l remaining most g held x m enough hg some-left hx = record {
+  beyond = λ e p he mp short long.
+      let u = enough .beyond (g ∷ e) p (both-true hg he) mp (omega arith) (omega arith) in
+      rw (append-assoc, hx) (left-later (within job limit) held (choiceOf job (l ++ (g ∷ e)) p) m u);
+}
+
+-- no next gate mends what is missed
+pub walk-stuck : (job : List ℕ) (task : Task) (s : Node) (path : List ℕ) (n : ℕ) → At job task s path n → (remaining most : ℕ) (held : Option Choice)
+    → Enough job (task .«cost_limit») (take n path) remaining most held
+    → stuck (task .wanted) (s .columns) (task .outputs) (task .free) most ≡ true
+    → lookedUnder job (task .«cost_limit») (take n path) remaining held ≡ held
+unfolding nodeOf taskOf
+walk-stuck job task s path n a remaining most held enough h =
+    let k = sym (ap₂ (λ (u : Task) (x : Node). stuck (u .wanted) (x .columns) (u .outputs) (u .free) most) (a .tasked) (a .reached)) ∙ h in
+    skip-all job (task .«cost_limit») (a .sound) (take n path) remaining held λ e he short p m.
+    unfinished job (task .«cost_limit») (take n path) remaining most held enough e p he m short λ q r.
+    stuck-none job (a .sound) (take n path) e (a .kept) he p m most k q r
 
 -- more outputs are missed, or more heavy gates needed, than gates can still come
 pub walk-far : (job : List ℕ) (task : Task) (s : Node) (path : List ℕ) (n : ℕ) → At job task s path n → (remaining most needs : ℕ) (held : Option Choice)

@@ -96,7 +96,7 @@ fn consider_met(
     }
 }
 
-// Whether nothing below the list so far can change what is held, by its cost, its gates and its depth.
+// Whether nothing below the list so far can change what is held, by its cost, its gates, its depth, and what its outputs miss.
 fn hopeless(
     job: &[u8],
     task: Task,
@@ -104,10 +104,12 @@ fn hopeless(
     path: [u8; 12],
     n: usize,
     remaining: usize,
+    most: usize,
     best: Best,
 ) -> bool
     requires { ⌜ At (now job) task s path n ⌝ }
     requires { ⌜ n ≤ 12 ⌝ }
+    requires { ⌜ Enough (now job) (task .«cost_limit») (take n path) remaining most (view best) ⌝ }
     ensures { λ r. ⌜ (r ≡ true → lookedUnder (now (job .entry)) (task .«cost_limit») (take n path) remaining (view best) ≡ view best) ⌝ }
 {
     let cost = s.cost;
@@ -125,7 +127,12 @@ fn hopeless(
         }
     }
     let times = s.times;
-    task.depth_limit < circuit::latest(times) as usize
+    if task.depth_limit < circuit::latest(times) as usize {
+        return true;
+    }
+    let wanted = task.wanted;
+    let columns = s.columns;
+    mend::stuck(wanted, columns, task.outputs, task.free, most)
 }
 
 // The most that a list may cost to change what is held.
@@ -234,7 +241,7 @@ fn dfs(
             let mut longer = path;
             longer[n] = g;
             let next = node::advance(task, g, s);
-            if !hopeless(job, task, next, longer, n + 1, remaining - 1, b) {
+            if !hopeless(job, task, next, longer, n + 1, remaining - 1, most - 1, b) {
                 let more = still_needed(job, task, next, longer, n + 1, g, needs);
                 let found = dfs(
                     job,
@@ -337,15 +344,15 @@ fn at_cost(job: &[u8], gates: &[u8], limit: usize, from: usize, needs: usize) ->
 
 // Whether some list may cost `c`; costs past the end of the marks are not ruled out.
 fn achievable(marks: &[u8], c: usize) -> bool
-    ensures { λ r. ⌜ (r ≡ false → (c < length (now (marks .entry))) × (getD (now (marks .entry)) c 0 ≡ 1 → ⊥)) ⌝ }
+    ensures { λ r. ⌜ (r ≡ false → (c < length (now (marks .entry))) × (getD (now (marks .entry)) c 0 ≡ 0)) ⌝ }
 {
-    if c < marks.len() { marks[c] == 1 } else { true }
+    if c < marks.len() { marks[c] != 0 } else { true }
 }
 
 // Deepening on cost: the sums of prices below the cost of what is held, rising.
 fn cheaper(job: &[u8], gates: &[u8], marks: &[u8], needs: usize, held: Best) -> Best
     requires { ⌜ Set (now job) (now gates) needs ⌝ }
-    requires { ⌜ Marked (priceOf (now job)) (gatesOf (now job)) (now marks) ⌝ }
+    requires { ⌜ Marked (priceOf (now job)) (gatesOf (now job)) (gateLimit (now job)) (now marks) ⌝ }
     requires { ⌜ (held .found ≡ true) × (held .len ≤ 12) ⌝ }
     requires { ⌜ First (now job) (costLimit (now job)) (view held) (held .len) ⌝ }
     ensures { λ r. ⌜ view r ≡ firstGood (now (job .entry)) ⌝ }
@@ -397,7 +404,12 @@ fn deepened(job: &[u8], gates: &[u8]) -> Best
         return held;
     }
     let mut marks = [0u8; 3061];
-    budget::mark(record::prices(job), record::wires(job), &mut marks);
+    budget::mark(
+        record::prices(job),
+        record::wires(job),
+        record::gate_limit(job),
+        &mut marks,
+    );
     cheaper(job, gates, &marks, needs, held)
 }
 

@@ -1,10 +1,9 @@
-// A job's table as bit-sliced columns: whether columns realize it, and how many outputs they are sure to miss.
+// A job's table as bit-sliced columns, and whether columns realize it.
 ghost use mathlib.Core.Path.{_≡_};
 ghost use Prim.Native.Nat.{_≤_, _<_};
 ghost use lib.ListN.{length, getD};
-ghost use Rattle.logic.specs.Rules.{allBelow};
 ghost use Rattle.record.specs.Layouts.{wireOf};
-ghost use Rattle.slices.specs.Wanted.{columnOf, rowBit, columnsOf, wantedOf, startColumns, missed, fits, met, nowhere, lost};
+ghost use Rattle.slices.specs.Wanted.{columnOf, rowBit, columnsOf, wantedOf, startColumns, missed, fits, met};
 
 // What a table wants of each output: the rows that care, and the bits of those rows.
 pub struct Wanted {
@@ -78,7 +77,7 @@ fn output(cells: [u16; 4], i: usize) -> u16
 }
 
 // Whether output `j`, were it on wire `w`, would miss a wanted bit of some row.
-pub fn missed(t: Wanted, columns: [u16; 5], w: usize, j: usize) -> bool
+fn missed(t: Wanted, columns: [u16; 5], w: usize, j: usize) -> bool
     ensures { λ r. ⌜ r ≡ missed t columns w j ⌝ }
 {
     let care = t.care;
@@ -106,45 +105,4 @@ pub fn met(t: Wanted, columns: [u16; 5], p: u8) -> bool
         fits(t, columns, p, 3),
         logic::both(fits(t, columns, p, 2), low),
     )
-}
-
-// Whether output `j` would miss a wanted bit on each of the first `n` wires.
-fn missed_below(t: Wanted, columns: [u16; 5], n: usize, j: usize) -> bool
-    ensures { λ r. ⌜ r ≡ allBelow n (λ w. missed t columns w j) ⌝ }
-{
-    let mut w = 0;
-    while w < n {
-        if !missed(t, columns, w, j) {
-            return false;
-        }
-        w += 1;
-    }
-    true
-}
-
-// Whether output `j` would miss a wanted bit on every wire that a layout may give it.
-fn nowhere(t: Wanted, columns: [u16; 5], n: usize, free: usize, j: usize) -> bool
-    ensures { λ r. ⌜ r ≡ nowhere t columns n free j ⌝ }
-{
-    if free == 1 {
-        missed_below(t, columns, n, j)
-    } else {
-        missed(t, columns, j, j)
-    }
-}
-
-// How many outputs every allowed layout misses: each wants a gate of its own.
-pub fn lost(t: Wanted, columns: [u16; 5], n: usize, free: usize) -> usize
-    ensures { λ r. ⌜ r ≡ lost t columns n free ⌝ }
-    ensures { λ r. ⌜ r ≤ n ⌝ }
-{
-    let mut sum = 0;
-    let mut j = 0;
-    while j < n {
-        if nowhere(t, columns, n, free, j) {
-            sum += 1;
-        }
-        j += 1;
-    }
-    sum
 }

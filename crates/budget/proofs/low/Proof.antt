@@ -1,3 +1,5 @@
+use mathlib.Core.Path.{_∙_, ap₂}
+use Prim.Native.Nat.{min}
 use native.Mathlib.Omega.{arith}
 use borrow.Author.Needs.{needs}
 use Rattle.budget.specs.Afford.{lowOf}
@@ -6,7 +8,7 @@ use Rattle.budget.proofs.low.Tie as tie
 
 returns : tie.Need-returns
 unfolding lowOf
-returns c = (cc, omega arith)
+returns c = (c .lesser2 .ensures ∙ ap₂ min (c .before .before .before .before .wide .ensures) (c .before .lesser .ensures ∙ ap₂ min (c .before .before .before .wide2 .ensures) (c .before .before .wide3 .ensures)), omega arith)
 
 pub low-spec : {M : Type 1} → statement M
 low-spec =

@@ -1,3 +1,5 @@
+use mathlib.Core.Path.{_∙_, ap}
+use Prim.Native.Nat.{min, _/_}
 use native.Mathlib.Omega.{arith}
 use borrow.Author.Needs.{needs}
 use borrow.Author.Tests.{eq-eqb, ne-eqb}
@@ -17,7 +19,9 @@ returns-2 : tie.Need-returns-2
 unfolding reach
 returns-2 c =
     let p = c .before .before .before in
-    (rw (ne-eqb (p .before .args .low) 0 (p .if1 .left)) (cc), omega arith)
+    let s = p .before .args in
+    let bought = c .before .quotient .ensures ∙ ap (λ a. a / s .low) (c .before .before .above .ensures) in
+    (rw (ne-eqb (s .low) 0 (p .if1 .left)) (c .lesser .ensures ∙ ap (min (s .remaining)) bought), omega arith)
 
 pub reach-spec : {M : Type 1} → statement M
 reach-spec =

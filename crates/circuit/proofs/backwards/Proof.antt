@@ -1,10 +1,10 @@
-use mathlib.Core.Path.{_≡_, sym}
+use mathlib.Core.Path.{_≡_, sym, ap, _∙_}
 use Prim.Native.Nat.{_≤_, _-_, _+_}
 use native.Mathlib.Omega.{arith}
 use borrow.Author.Needs.{needs}
-use lib.ListN.{length, drop}
-use Rattle.gate.specs.Gates.{step}
+use lib.ListN.{length, drop, getD}
 use Rattle.logic.proofs.Fold.{back-more, back-done}
+use Rattle.gate.specs.Gates.{step}
 use Rattle.circuit.specs.Run.{backwards}
 use Rattle.circuit.proofs.backwards.Statement.{statement}
 use Rattle.circuit.proofs.backwards.Tie as tie
@@ -25,7 +25,7 @@ loop-again c =
     let e : p .loop .i - 1 + 1 ≡ p .loop .i = omega arith in
     let h = back-more step (s .args .gates .now) (p .loop .i - 1) 0 (s .args .value) (omega arith) in
     let k = rw e at h in
-    (omega arith, cc)
+    (omega arith, c .step .ensures ∙ ap (step (getD (s .args .gates .now) (p .loop .i - 1) 0)) (p .loop .inv .1) ∙ sym k)
 
 returns : tie.Need-returns Inv-loop μ-loop
 returns c =

@@ -1,12 +1,14 @@
+use mathlib.Core.Path.{_∙_, ap₂}
+use Prim.Native.Nat.{max}
 use borrow.Author.Needs.{needs}
 use Rattle.circuit.proofs.controls_ready.Statement.{statement}
 use Rattle.circuit.proofs.controls_ready.Tie as tie
 
 returns-2 : tie.Need-returns-2
-returns-2 c = cc
+returns-2 c = rw (c .before .before .kind .given .1) (c .cell .ensures)
 
 returns-3 : tie.Need-returns-3
-returns-3 c = cc
+returns-3 c = rw (c .before .before .before .before .kind2 .given .1) (c .later .ensures ∙ ap₂ max (c .before .before .cell2 .ensures) (c .before .cell3 .ensures))
 
 pub controls-ready-spec : {M : Type 1} → statement M
 controls-ready-spec =

@@ -1,10 +1,10 @@
-use mathlib.Core.Path.{_≡_, refl, sym, _∙_}
-use Prim.Native.Nat.{_≤_, _-_}
+use mathlib.Core.Path.{_≡_, refl, sym, _∙_, ap}
+use Prim.Native.Nat.{_≤_, _-_, _+_}
 use native.Mathlib.Omega.{arith}
 use borrow.Author.Needs.{needs}
 use lib.ListN.{length, drop}
-use Rattle.gate.specs.Gates.{step}
 use Rattle.logic.proofs.Fold.{along-more, along-done}
+use Rattle.gate.specs.Gates.{step}
 use Rattle.circuit.specs.Run.{forwards}
 use Rattle.circuit.proofs.forwards.Statement.{statement}
 use Rattle.circuit.proofs.forwards.Tie as tie
@@ -22,7 +22,7 @@ loop-again : tie.Need-loop-again Inv-loop μ-loop
 loop-again c =
     let p = c .before .before .before in
     let h = along-more step (p .before .before .args .gates .now) (p .loop .i) 0 (p .loop .v) (omega arith) in
-    (omega arith, cc)
+    (omega arith, ap (forwards (drop (p .loop .i + 1) (p .before .before .args .gates .now))) (c .step .ensures) ∙ sym h ∙ p .loop .inv .1)
 
 returns : tie.Need-returns Inv-loop μ-loop
 returns c =

@@ -3,10 +3,10 @@ use Rattle.circuit.proofs.hold_controls.Statement.{statement}
 use Rattle.circuit.proofs.hold_controls.Tie as tie
 
 returns-2 : tie.Need-returns-2
-returns-2 c = cc
+returns-2 c = rw (c .before .before .kind .given .1) (c .with-cell .ensures)
 
 returns-3 : tie.Need-returns-3
-returns-3 c = cc
+returns-3 c = rw (c .before .before .before .kind2 .given .1, ← c .before .with-cell2 .ensures) (c .with-cell3 .ensures)
 
 pub hold-controls-spec : {M : Type 1} → statement M
 hold-controls-spec =

@@ -1,12 +1,12 @@
-use mathlib.Core.Path.{_≡_, refl, sym, _∙_}
-use Prim.Native.Nat.{ℕ, _≤_, _-_, _*_}
+use mathlib.Core.Path.{_≡_, refl, sym, _∙_, ap}
+use Prim.Native.Nat.{ℕ, _≤_, _-_, _*_, _+_}
 use native.Mathlib.Nat.{le-trans}
 use native.Mathlib.Omega.{arith}
 use borrow.Author.Needs.{needs}
 use lib.ListN.{length, drop, getD}
 use Rattle.logic.specs.Lists.{along}
 use Rattle.logic.proofs.Fold.{along-more, along-done}
-use Rattle.circuit.specs.Measure.{weightOf, holdByte, readyTimes}
+use Rattle.circuit.specs.Measure.{weightOf, holdByte, readyTimes, hold}
 use Rattle.circuit.proofs.Times.{hold-until, idle-until}
 use Rattle.circuit.proofs.ready_times.Statement.{statement}
 use Rattle.circuit.proofs.ready_times.Tie as tie
@@ -30,7 +30,9 @@ loop-again c =
     let h = along-more (holdByte (weightOf (s .args .durations))) (s .args .gates .now) (p .loop .i) 0 (p .loop .times) (omega arith) in
     let d = c .before .weight .result in
     let u = hold-until (c .before .before .decode .result) d (p .loop .times) (255 * p .loop .i) (p .loop .inv .1 .0) in
-    (omega arith, ((λ w. rw (c .hold .ensures) (le-trans (u w) (omega arith))), cc))
+    let n = c .hold .ensures ∙ (λ j. hold (c .before .before .decode .ensures j) (c .before .weight .ensures j) (p .loop .times)) in
+    let k = ap (along (holdByte (weightOf (s .args .durations))) (drop (p .loop .i + 1) (s .args .gates .now))) n ∙ sym h ∙ p .loop .inv .1 .1 in
+    (omega arith, ((λ w. rw (c .hold .ensures) (le-trans (u w) (omega arith))), k))
 
 returns : tie.Need-returns Inv-loop μ-loop
 returns c =

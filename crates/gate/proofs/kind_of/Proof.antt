@@ -1,4 +1,6 @@
+use mathlib.Core.Path.{ap₂}
 use borrow.Author.Needs.{needs}
+use Rattle.gate.specs.declared.Kind.the-variants.{Toffoli}
 use Rattle.gate.proofs.Cases.{two-or-more}
 use Rattle.gate.proofs.kind_of.Statement.{statement}
 use Rattle.gate.proofs.kind_of.Tie as tie
@@ -10,7 +12,7 @@ returns-2 : tie.Need-returns-2
 returns-2 c = rw (c .before .match .keys2, c .lowest .ensures)
 
 returns-3 : tie.Need-returns-3
-returns-3 c = rw (two-or-more (c .before .before .before .args .m) (c .before .before .match .rest .0 .1) (c .before .before .match .rest .1)) (cc)
+returns-3 c = rw (two-or-more (c .before .before .before .args .m) (c .before .before .match .rest .0 .1) (c .before .before .match .rest .1)) (ap₂ Toffoli (c .before .lowest2 .ensures) (c .highest .ensures))
 
 pub kind-of-spec : {M : Type 1} → statement M
 kind-of-spec =

@@ -1,11 +1,19 @@
+use mathlib.Core.Path.{_∙_, ap}
+use mathlib.Core.List.{map}
+use Prim.Native.Nat.{_%_}
 use borrow.Author.Needs.{needs}
-use Rattle.parity.specs.Parity.{oddTable}
+use lib.Dec.{eqb}
+use Rattle.logic.specs.Rules.{both}
+use Rattle.record.specs.Jobs.{valueOf}
+use Rattle.parity.specs.Parity.{oddTable, inversions}
 use Rattle.parity.proofs.odd_table.Statement.{statement}
 use Rattle.parity.proofs.odd_table.Tie as tie
 
 returns : tie.Need-returns
 unfolding oddTable
-returns c = cc
+returns c =
+    let odd = c .before .inversions .ensures ∙ ap (λ l. inversions (map valueOf l) % 2) (c .before .before .table .ensures) in
+    c .both .ensures ∙ (λ i. both (c .before .before .before .permutes .ensures i) (eqb (odd i) 1))
 
 pub odd-table-spec : {M : Type 1} → statement M
 odd-table-spec =

@@ -5,7 +5,7 @@ use Rattle.record.proofs.cost_limit.Tie as tie
 
 returns : tie.Need-returns
 unfolding costLimit
-returns c = cc
+returns c = c .word .ensures
 
 pub cost-limit-spec : {M : Type 1} → statement M
 cost-limit-spec = tie.close (tie.spec (λ c κs. search needs) returns)

@@ -5,7 +5,7 @@ use Rattle.record.proofs.depth_limit.Tie as tie
 
 returns : tie.Need-returns
 unfolding depthLimit
-returns c = cc
+returns c = c .word .ensures
 
 pub depth-limit-spec : {M : Type 1} → statement M
 depth-limit-spec = tie.close (tie.spec (λ c κs. search needs) returns)

@@ -5,7 +5,7 @@ use Rattle.record.proofs.layout_of.Tie as tie
 
 returns : tie.Need-returns
 unfolding layoutOf
-returns c = cc
+returns c = c .at .ensures
 
 pub layout-of-spec : {M : Type 1} → statement M
 layout-of-spec = tie.close (tie.spec (λ c κs. search needs) returns)

@@ -1,11 +1,13 @@
+use mathlib.Core.Path.{ap}
 use borrow.Author.Needs.{needs}
+use lib.Dec.{leb}
 use Rattle.record.specs.Jobs.{limitOk}
 use Rattle.record.proofs.limit_ok.Statement.{statement}
 use Rattle.record.proofs.limit_ok.Tie as tie
 
 returns : tie.Need-returns
 unfolding limitOk
-returns c = cc
+returns c = ap (λ n. leb n 12) (c .gate-limit .ensures)
 
 pub limit-ok-spec : {M : Type 1} → statement M
 limit-ok-spec = tie.close (tie.spec (λ c κs. search needs) returns)

@@ -5,7 +5,7 @@ use Rattle.record.proofs.span_ok.Tie as tie
 
 returns : tie.Need-returns
 unfolding spanOk
-returns c = cc
+returns c = c .both .ensures
 
 pub span-ok-spec : {M : Type 1} → statement M
 span-ok-spec = tie.close (tie.spec (λ c κs. search needs) returns)

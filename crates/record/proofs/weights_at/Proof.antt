@@ -3,7 +3,7 @@ use Rattle.record.proofs.weights_at.Statement.{statement}
 use Rattle.record.proofs.weights_at.Tie as tie
 
 returns : tie.Need-returns
-returns c = cc
+returns c = λ i. record { not = c .before .before .at .ensures i; cnot = c .before .at2 .ensures i; toffoli = c .at3 .ensures i }
 
 pub weights-at-spec : {M : Type 1} → statement M
 weights-at-spec =

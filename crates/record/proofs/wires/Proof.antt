@@ -1,3 +1,5 @@
+use mathlib.Core.Path.{_∙_, ap}
+use Prim.Native.Nat.{_+_, _/_, _%_}
 use native.Mathlib.Omega.{arith}
 use borrow.Author.Needs.{needs}
 use Rattle.record.specs.Jobs.{wires, dataWires, ancillas}
@@ -6,7 +8,7 @@ use Rattle.record.proofs.wires.Tie as tie
 
 returns : tie.Need-returns
 unfolding wires dataWires ancillas
-returns c = (cc, omega arith)
+returns c = (ap (λ x. x / 32 + x / 8 % 4) (c .wide .ensures ∙ c .before .at .ensures), omega arith)
 
 pub wires-spec : {M : Type 1} → statement M
 wires-spec = tie.close (tie.spec (λ c κs. search needs) (λ c κs. search needs) (λ c. search needs) returns)

@@ -1,3 +1,4 @@
+use mathlib.Core.Path.{refl}
 use borrow.Author.Needs.{needs}
 use Rattle.rules.specs.Inner.{hasOutput}
 use Rattle.rules.proofs.has_output.Statement.{statement}
@@ -5,7 +6,7 @@ use Rattle.rules.proofs.has_output.Tie as tie
 
 returns : tie.Need-returns
 unfolding hasOutput
-returns c = cc
+returns c = refl
 
 pub has-output-spec : {M : Type 1} → statement M
 has-output-spec =

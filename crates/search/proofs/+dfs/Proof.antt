@@ -1,4 +1,4 @@
-use mathlib.Core.Path.{_≡_, refl, sym, ap, ap₂, _∙_}
+use mathlib.Core.Path.{_≡_, refl, sym, ap, ap₂, _∙_, subst}
 use mathlib.Core.Bool.{true, false}
 use mathlib.Core.Logic.{_⊎_, inl, inr, ⊎-elim}
 use mathlib.Core.List.{List, [], _∷_, _++_}
@@ -24,11 +24,11 @@ use Rattle.rules.specs.Worth.{worth, tableOf}
 use Rattle.node.specs.declared.Task.{Task}
 use Rattle.node.specs.declared.Node.{Node}
 use Rattle.node.specs.States.{taskOf, nodeOf, advanced, At}
-use Rattle.node.proofs.Nodes.{outputs-are, wires-within, gates-most, gate-at-lawful, longer, at-more}
+use Rattle.node.proofs.Nodes.{width, wires-within, gates-most, gate-at-lawful, longer, at-more}
 use Rattle.search.specs.Outcomes.{here, gatesOf}
-use Rattle.search.specs.Inner.{within, lookedUnder}
+use Rattle.search.specs.Inner.{within, lookedUnder, Enough}
 use Rattle.search.proofs.Reaches.{needs-light}
-use Rattle.search.proofs.Walk.{walk-far, walk-stop, walk-skip, walk-end, walk-turn}
+use Rattle.search.proofs.Walk.{enough-next, walk-far, walk-stop, walk-skip, walk-end, walk-turn}
 use Rattle.search.proofs.dfs.Reads as dfs
 use Rattle.search.proofs.dfs.Kinds as dfs-kinds
 use Rattle.search.proofs.+dfs.Lts-dfs as dfs-lts
@@ -70,10 +70,6 @@ dfs-long t s = search needs
 
 five : (t : ℕ) (s : dfs-lts.Start (callees t) (dfs-at t) dfs.Post dfs-Inv-loop dfs-μ-loop) → length (s .args .s .columns) ≡ 5
 five t s = search needs
-
--- three or four outputs
-width : (job : List ℕ) (task : Task) (s : Node) (path : List ℕ) (n : ℕ) → At job task s path n → (3 ≤ task .outputs) × (task .outputs ≤ 4)
-width job task s path n a = ⊎-elim (λ e. (omega arith, omega arith)) (λ e. (omega arith, omega arith)) (outputs-are job task s path n a)
 
 dfs-affordable-requires : (t : ℕ) → dfs-lts.Need-affordable-requires (callees t) (dfs-at t) dfs.Post dfs-Inv-loop dfs-μ-loop
 dfs-affordable-requires t c κs = let s = c .before .before in let p = s .pre .1 in (p .0, (p .1 .1 .1 .0, p .1 .1 .1 .1))
@@ -218,10 +214,18 @@ dfs-next t c = next-at t (c .before .before) (c .advance .result) (c .advance .e
 
 dfs-hopeless-requires : (t : ℕ) → dfs-lts.Need-hopeless-requires (callees t) (dfs-at t) dfs.Post dfs-Inv-loop dfs-μ-loop
 dfs-hopeless-requires t c κs =
+    let w = c .before .before in
     let s = c .before .before .before .before .before .before .before .before .before .before .before .before .before .before .before .before .before .before .before in
     let h = s .pre .1 .1 .0 .0 in
-    let r = some-left t (c .before .before) in
-    (dfs-next t c, omega arith)
+    let r = some-left t w in
+    let m = w .before .before .before .before .before .before .before .before .before .before .before .before .before .before .affordable in (
+      dfs-next t c,
+      (
+        omega arith,
+        subst (λ (l : List ℕ). Enough (job t w) (task t w .«cost_limit») l (s .args .remaining - 1) (m .result - 1) (view (turned t w .loop .b))) (sym (next-list t w))
+            (enough-next (job t w) (task t w .«cost_limit») (list t w) (s .args .remaining) (m .result) (tried t w) (view (s .args .best)) (view (turned t w .loop .b)) _ (m .ensures .1) (tried-lawful t w) r (held-before t w)),
+      ),
+    )
 
 dfs-add-still-needed : (t : ℕ) → dfs-lts.Need-add-still-needed (callees t) (dfs-at t) dfs.Post dfs-Inv-loop dfs-μ-loop
 dfs-add-still-needed t c = let s = c .before .before .before .before .before .before .before .before .before .before .before .before .before .before .before .before .before .before .before .before .before in let h = s .pre .1 .1 .0 .0 in record { fits = omega arith }
@@ -349,6 +353,7 @@ pub +dfs-spec : {M : Type 1} → statement M
     (dfs-advance-requires t)
     (dfs-add-hopeless t)
     (dfs-sub-hopeless t)
+    (λ c. turned t (c .before .before) .loop .inv .1 .0)
     (dfs-hopeless-requires t)
     (dfs-add-still-needed t)
     (dfs-still-needed-requires t)

@@ -1,11 +1,11 @@
 use mathlib.Core.Bool.{true≢false}
-use borrow.Author.Tests.{eqb-false}
+use borrow.Author.Tests.{eqb-true, not-false}
 use borrow.Author.Needs.{needs}
 use Rattle.search.proofs.achievable.Statement.{statement}
 use Rattle.search.proofs.achievable.Tie as tie
 
 returns : tie.Need-returns
-returns c = λ f. (c .before .if1 .taken, eqb-false _ _ f)
+returns c = λ f. (c .before .if1 .taken, eqb-true _ _ (not-false _ f))
 
 returns-2 : tie.Need-returns-2
 returns-2 c = λ f. absurd (true≢false f)

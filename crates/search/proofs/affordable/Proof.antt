@@ -1,3 +1,4 @@
+use mathlib.Core.Path.{sym, _∙_}
 use native.Mathlib.Omega.{arith}
 use borrow.Author.Tests.{ltb-true}
 use borrow.Author.Needs.{needs}
@@ -26,7 +27,7 @@ returns-2 c =
     let i = c .before .before .if1 .left in (
       omega arith,
       enough-heavy job (s .args .task) (s .args .s) (s .args .path) (s .args .n) (s .pre .0) (p .cap .result) (s .args .needs) (s .args .remaining) (view (s .args .best))
-          (s .pre .1 .0) (p .cap .ensures job) (omega arith) (ltb-true _ _ (cc)),
+          (s .pre .1 .0) (p .cap .ensures job) (omega arith) (ltb-true _ _ (sym (c .before .unaffordable .ensures) ∙ c .if2 .taken)),
     )
 
 reach-requires : tie.Need-reach-requires

@@ -1,4 +1,4 @@
-use mathlib.Core.Path.{_≡_, sym, _∙_}
+use mathlib.Core.Path.{_≡_, sym, _∙_, ap}
 use mathlib.Core.Bool.{true≢false}
 use native.Mathlib.Omega.{arith}
 use borrow.Author.Needs.{needs}
@@ -12,7 +12,11 @@ use Rattle.search.proofs.at_cost.Tie as tie
 most-is : (c : tie.After-reach)
     → let s = c .before .before .before .before .before .before .before in
     c .reach .result ≡ reach (lowOf (prices (s .args .job .now))) (extraOf (prices (s .args .job .now))) (s .args .needs) (s .args .limit) (gateLimit (s .args .job .now))
-most-is c = cc
+most-is c =
+    let s = c .before .before .before .before .before .before .before in
+    let p = c .before .before .before .before .prices .ensures in
+    c .reach .ensures .0
+    ∙ (λ i. reach ((c .before .before .before .low .ensures .0 ∙ ap lowOf p) i) ((c .before .before .extra .ensures .0 ∙ ap extraOf p) i) (s .args .needs) (s .args .limit) (c .before .gate-limit .ensures i))
 
 returns : tie.Need-returns
 returns c =

@@ -1,15 +1,13 @@
-use mathlib.Core.Path.{_≡_, refl, sym, ap, _∙_}
+use mathlib.Core.Path.{_≡_, refl, sym, ap, _∙_, ap₂}
 use native.Mathlib.Omega.{arith}
 use borrow.Author.Tests.{not-true, not-false}
 use borrow.Author.Needs.{needs}
 use lib.Dec.{leb}
 use lib.ListN.{take, length}
 use Rattle.logic.specs.Rules.{both}
-use Rattle.circuit.specs.Measure.{greatest}
-use Rattle.slices.specs.Wanted.{met}
 use Rattle.choice.specs.Choices.{keep}
-use Rattle.best.specs.Inner.{view}
 use Rattle.choice.proofs.First.{attempt-not}
+use Rattle.best.specs.Inner.{view}
 use Rattle.search.specs.Outcomes.{choiceOf}
 use Rattle.search.specs.Inner.{within}
 use Rattle.search.proofs.Nodes.{attempt-good, good-is, mine-is}
@@ -22,7 +20,8 @@ tested : (c : tie.After-both2)
     c .both2 .result ≡ within (s .args .job .now) (s .args .task .«cost_limit») (choiceOf (s .args .job .now) (take (s .args .n) (s .args .path)) (s .args .p))
 tested c =
     let s = c .before .before .before .before .before .before .before .before .before .before .before in
-    let e : c .both2 .result ≡ both (met (s .args .task .wanted) (s .args .s .columns) (s .args .p)) (both (leb (s .args .s .cost) (s .args .task .«cost_limit»)) (leb (greatest (s .args .s .times)) (s .args .task .«depth_limit»))) = cc in
+    let dear = c .before .before .both .ensures ∙ ap (λ d. both (leb (s .args .s .cost) (s .args .task .«cost_limit»)) (leb d (s .args .task .«depth_limit»))) (c .before .before .before .before .before .before .latest .ensures) in
+    let e = c .both2 .ensures ∙ ap₂ both (c .before .met .ensures) dear in
     e ∙ good-is (s .args .job .now) (s .args .task) (s .args .s) (s .args .path) (s .args .n) (s .pre .0) (s .args .p)
 
 returns : tie.Need-returns

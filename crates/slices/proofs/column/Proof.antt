@@ -1,4 +1,4 @@
-use mathlib.Core.Path.{_≡_, sym}
+use mathlib.Core.Path.{_≡_, sym, _∙_}
 use Prim.Native.Nat.{_≤_, _<_, _-_, _+_, _*_}
 use native.Mathlib.Omega.{arith}
 use borrow.Author.Needs.{needs}
@@ -29,7 +29,7 @@ loop-again c =
     let k = rw e at h in
     let l = length-drop (p .loop .x - 1) table in
     let b = column-fits (s .args .care) (s .args .j) (drop (p .loop .x - 1) table) (omega arith) in
-    let v : c .row-bit .result + 2 * p .loop .bits ≡ columnOf f (drop (p .loop .x - 1) table) = cc in
+    let v : c .row-bit .result + 2 * p .loop .bits ≡ columnOf f (drop (p .loop .x - 1) table) = (λ i. c .row-bit .ensures .0 i + 2 * p .loop .inv .2 i) ∙ sym k in
     (omega arith, omega arith, v)
 
 returns : tie.Need-returns Inv-loop μ-loop

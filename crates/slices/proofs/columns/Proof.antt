@@ -1,3 +1,4 @@
+use mathlib.Core.List.{[], _∷_}
 use borrow.Author.Needs.{needs}
 use Rattle.slices.specs.Wanted.{columnsOf}
 use Rattle.slices.proofs.columns.Statement.{statement}
@@ -5,7 +6,7 @@ use Rattle.slices.proofs.columns.Tie as tie
 
 returns : tie.Need-returns
 unfolding columnsOf
-returns c = cc
+returns c = λ i. c .before .before .before .column .ensures i ∷ c .before .before .column2 .ensures i ∷ c .before .column3 .ensures i ∷ c .column4 .ensures i ∷ []
 
 pub columns-spec : {M : Type 1} → statement M
 columns-spec =

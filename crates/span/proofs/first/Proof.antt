@@ -1,8 +1,9 @@
-use mathlib.Core.Path.{_≡_, ap}
+use mathlib.Core.Path.{_≡_, ap, sym, _∙_}
+use mathlib.Core.List.{[], _∷_}
+use borrow.Author.Needs.{needs}
 use lib.ListN.{length}
 use Rattle.span.specs.Span.{first}
 use Rattle.span.proofs.Spelled.{spelled}
-use borrow.Author.Needs.{needs}
 use Rattle.span.proofs.first.Statement.{statement}
 use Rattle.span.proofs.first.Tie as tie
 
@@ -11,7 +12,8 @@ unfolding first
 returns c =
     let s = c .before .before .before .before in
     let l : length (s .args .t3) ≡ 4 = search needs in
-    cc (ap (first 0 (s .args .n) (s .args .d)) (spelled (s .args .t3) 4 l))
+    (λ i. c .before .before .before .pick .ensures i ∷ c .before .before .pick2 .ensures i ∷ c .before .pick3 .ensures i ∷ c .pick4 .ensures i ∷ [])
+    ∙ sym (ap (first 0 (s .args .n) (s .args .d)) (spelled (s .args .t3) 4 l))
 
 pub first-spec : {M : Type 1} → statement M
 first-spec =

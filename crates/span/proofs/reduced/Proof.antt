@@ -1,9 +1,9 @@
-use mathlib.Core.Path.{_≡_, ap}
-use lib.ListN.{length}
+use mathlib.Core.Path.{_≡_, ap, sym, _∙_}
+use borrow.Author.Needs.{needs}
+use lib.ListN.{length, getD}
 use Rattle.logic.specs.Lists.{along}
 use Rattle.span.specs.Span.{clear}
 use Rattle.span.proofs.Spelled.{spelled}
-use borrow.Author.Needs.{needs}
 use Rattle.span.proofs.reduced.Statement.{statement}
 use Rattle.span.proofs.reduced.Tie as tie
 
@@ -12,7 +12,8 @@ unfolding along
 returns c =
     let s = c .before .before in
     let l : length (s .args .t1) ≡ 6 = search needs in
-    cc (ap (λ m. along clear m (s .args .x)) (spelled (s .args .t1) 6 l))
+    c .clear-three2 .ensures ∙ ap (λ y. clear (getD (s .args .t1) 5 0) (clear (getD (s .args .t1) 4 0) (clear (getD (s .args .t1) 3 0) y))) (c .before .clear-three .ensures)
+    ∙ sym (ap (λ m. along clear m (s .args .x)) (spelled (s .args .t1) 6 l))
 
 pub reduced-spec : {M : Type 1} → statement M
 reduced-spec =

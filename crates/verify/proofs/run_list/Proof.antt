@@ -9,4 +9,4 @@ returns-2 : tie.Need-returns-2
 returns-2 c = rw (c .before .if1 .left) (c .backwards .ensures)
 
 pub run-list-spec : {M : Type 1} → statement M
-run-list-spec = tie.close (tie.spec (λ c κs. search needs) (λ c κs. search needs) returns returns-2)
+run-list-spec = tie.close (tie.spec (λ c κs. search needs) (λ c κs. tt) returns returns-2)

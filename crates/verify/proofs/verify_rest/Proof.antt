@@ -1,9 +1,11 @@
-use mathlib.Core.Path.{ap}
+use mathlib.Core.Path.{_∙_, ap, ap₂}
 use native.Mathlib.Omega.{arith}
 use borrow.Author.Needs.{needs}
 use lib.ListN.{length}
+use Rattle.logic.specs.Rules.{rule}
 use Rattle.record.proofs.Kept.{sound-job}
-use Rattle.verify.specs.Calls.{verifyRest}
+use Rattle.verify.specs.Realize.{realizes, allowed}
+use Rattle.verify.specs.Calls.{limitsCode, verifyRest}
 use Rattle.verify.proofs.Codes.{gates-few}
 use Rattle.verify.proofs.verify_rest.Statement.{statement}
 use Rattle.verify.proofs.verify_rest.Tie as tie
@@ -20,7 +22,14 @@ allowed-requires c κs =
 
 returns : tie.Need-returns
 unfolding verifyRest
-returns c = cc
+returns c =
+    let s = c .before .before .before .before .before in
+    let job = s .before .before .before .before .before .args .job .now in
+    let p = s .before .before .layout-of .ensures in
+    let met = s .realizes .ensures ∙ ap₂ (realizes job) p (s .before .gate-list .ensures) in
+    let within = c .before .before .before .limits-code .ensures ∙ ap (limitsCode job) (c .before .before .before .before .gate-list2 .ensures) in
+    let rest = c .before .before .rule .ensures ∙ (λ i. rule (met i) 16 (within i)) in
+    c .rule2 .ensures ∙ (λ i. rule ((c .before .allowed .ensures ∙ ap (allowed job) p) i) 15 (rest i))
 
 pub verify-rest-spec : {M : Type 1} → statement M
 verify-rest-spec =

@@ -7,7 +7,7 @@ use Prim.Native.Nat.{ℕ, zero, suc, _+_, _≤_, _<_}
 use native.Mathlib.Decide.{ℕ-discrete}
 use native.Mathlib.Omega.{arith}
 use borrow.Author.Tests.{eqb-true, eq-eqb}
-use lib.Dec.{eqb, lit<}
+use lib.Dec.{eqb}
 use Rattle.logic.specs.Rules.{pick}
 use Rattle.logic.specs.Lists.{allOf, filter, count}
 use Rattle.logic.proofs.Chain.{both-left, both-right, both-true}
@@ -104,15 +104,3 @@ module _ (job : List ℕ) where
           → List·Memᴰ p (pick t (filter (layoutOk (dataWires job)) (count 0 256)) (plain (dataWires job) ∷ []))
       by-free true k = filter-has (layoutOk (dataWires job)) (count 0 256) p k (count-has 256 0 p (omega arith) hp)
       by-free false k = List·Memᴰ.List·Memᴰ·head (eqb-true p (plain (dataWires job)) k)
-
-  pub layout-lt : (p : ℕ) → List·Memᴰ p (layoutsFor (dataWires job) (freeLayout job)) → p < 256
-  unfolding layoutsFor
-  layout-lt p m = by-free (eqb (freeLayout job) 1) m
-    where
-      three-or-four : (t : Bool) → pick t 24 27 < 256
-      three-or-four true = lit< tt
-      three-or-four false = lit< tt
-
-      by-free : (t : Bool) → List·Memᴰ p (pick t (filter (layoutOk (dataWires job)) (count 0 256)) (plain (dataWires job) ∷ [])) → p < 256
-      by-free true k = count-is 256 0 p (filter-is (layoutOk (dataWires job)) (count 0 256) p k .1) .1
-      by-free false k = rw (List·Memᴰ·eq-of-singleton k) (three-or-four (eqb (dataWires job) 3))

@@ -25,7 +25,9 @@ use Rattle.parity.specs.Parity.{oddTable}
 use Rattle.parity.proofs.Never.{none-realizes}
 use Rattle.choice.specs.Choices.{Choice, before}
 use Rattle.search.specs.Outcomes.{choiceOf, here, gatesOf, choices, good, firstGood, refusal, found, recordOf, measuresIn, outcomeOf, searchCode, searchOf}
-use Rattle.node.proofs.Members.{among-lawful, lawful-among, layout-is, layout-has, layout-lt}
+use Rattle.slices.proofs.Allowed.{allowed-ok}
+use Rattle.slices.proofs.Realized.{wires-most}
+use Rattle.node.proofs.Members.{among-lawful, lawful-among, layout-is, layout-has}
 use Rattle.choice.proofs.Order as Order
 use Rattle.choice.proofs.First as First
 use Rattle.choice.proofs.Enumeration as Enumeration
@@ -49,16 +51,12 @@ pub record Solves (job l : List ℕ) (p : ℕ) : Type 0 where
   pub depth-within : depth (durationOf job) l ≤ depthLimit job
 
 module _ (job : List ℕ) (sound : jobCode job ≡ 0) where
-  narrow : wires job ≤ 5
-  unfolding wires
-  narrow = let s = sound-job job sound in let m = s .spare in ⊎-elim (λ e. omega arith) (λ e. omega arith) (s .width)
-
   -- the choices are exactly the lists and layouts that the job admits
   listed : (l : List ℕ) (p : ℕ) → Admitted job l p → List·Memᴰ (choiceOf job l p) (choices job)
   unfolding here
   listed l p a =
       Enumeration.under-has (here job) (gatesOf job) [] (gateLimit job) (choiceOf job l p) l
-      (lawful-among (wires job) narrow l (a .gates-lawful)) (a .gates-within)
+      (lawful-among (wires job) (wires-most job sound) l (a .gates-lawful)) (a .gates-within)
       (Memᴰ·map (choiceOf job l) (layout-has job p (a .layout-byte) (a .layout-allowed)))
 
   unlisted : (c : Choice) → List·Memᴰ c (choices job) → (l : List ℕ) × ((p : ℕ) × (Admitted job l p × (choiceOf job l p ≡ c)))
@@ -71,10 +69,10 @@ module _ (job : List ℕ) (sound : jobCode job ≡ 0) where
           q .0,
           (
             record {
-              gates-lawful = among-lawful (wires job) narrow (u .0) (u .1 .0);
+              gates-lawful = among-lawful (wires job) (wires-most job sound) (u .0) (u .1 .0);
               gates-within = u .1 .1 .0;
               layout-allowed = layout-is job (q .0) (q .1);
-              layout-byte = layout-lt job (q .0) (q .1);
+              layout-byte = allowed-ok (dataWires job) (freeLayout job) (q .0) (sound-job job sound .width) (q .1) .0;
             },
             q .2,
           ),

@@ -1,7 +1,7 @@
 -- The whole-column test is the row-by-row test: columns have every wanted bit of a job's table exactly when the list realizes the job.
 use mathlib.Core.Path.{_≡_, refl, sym, ap, ap₂, _∙_}
 use mathlib.Core.Logic.{⊎-elim}
-use mathlib.Core.Bool.{Bool, true, false, not}
+use mathlib.Core.Bool.{Bool, true, false, Bool·not-not}
 use mathlib.Core.List.{List, [], _∷_}
 use Prim.Native.Nat.{ℕ, zero, suc, _+_, _^_, _≤_, _<_}
 use native.Mathlib.Nat.{not-suc-le-zero, le-of-suc-le-suc, lt-of-le-of-lt, zero-add, zero-div}
@@ -98,10 +98,6 @@ clear a b c ha hb hc =
     let s = both-parts (implies (test a b c) (rule a b c)) (implies (rule a b c) (test a b c)) (below 2 (same₁ a b) (below 2 (same₂ a) (below 2 same₃ refl a ha) b hb) c hc) in
     same-truth (test a b c) (rule a b c) (implied (test a b c) (rule a b c) (s .0)) (implied (rule a b c) (test a b c) (s .1))
 
-not-not : (a : Bool) → not (not a) ≡ a
-not-not true = refl
-not-not false = refl
-
 module _ (job : List ℕ) (hj : jobCode job ≡ 0) (gs : List ℕ) (hg : allOf (lawful 2 (wires job)) gs ≡ true) (p : ℕ) where
   wanted-bit : (care : Bool) (j x : ℕ) → j < 4 → x < length (rows job) → bitOf x (getD (columnsOf care (rows job)) j 0) ≡ rowBit care j (getD (rows job) x 0)
   wanted-bit care j x h l = ap (bitOf x) (columns-at care (rows job) j h) ∙ column-bit (rowBit care j) (row-bit-lt care j) (rows job) x l
@@ -136,13 +132,13 @@ module _ (job : List ℕ) (hj : jobCode job ≡ 0) (gs : List ℕ) (hg : allOf (
     fits-agrees : fits (wantedOf job) (columnsAfter gs startColumns) p j ≡ true → (x : ℕ) → x < length (rows job) → bitAgrees p (getD (rows job) x 0) (forwards gs x) j ≡ true
     fits-agrees t x l =
         let m = misses (wantedOf job) (columnsAfter gs startColumns) (wireOf p j) j in
-        let z : m ≡ 0 = eqb-true m 0 (sym (not-not (eqb m 0)) ∙ t) in
+        let z : m ≡ 0 = eqb-true m 0 (sym (Bool·not-not (eqb m 0)) ∙ t) in
         sym (miss-bit x l) ∙ eq-eqb (bitOf x m) 0 (rw (z, zero-div (2 ^ x)))
 
     agrees-fits : ((x : ℕ) → x < length (rows job) → bitAgrees p (getD (rows job) x 0) (forwards gs x) j ≡ true) → fits (wantedOf job) (columnsAfter gs startColumns) p j ≡ true
     agrees-fits a =
         let m = misses (wantedOf job) (columnsAfter gs startColumns) (wireOf p j) j in
-        not-not (eqb m 0) ∙ eq-eqb m 0 (zero-bits (length (rows job)) m miss-lt (λ x l. eqb-true (bitOf x m) 0 (miss-bit x l ∙ a x l)))
+        Bool·not-not (eqb m 0) ∙ eq-eqb m 0 (zero-bits (length (rows job)) m miss-lt (λ x l. eqb-true (bitOf x m) 0 (miss-bit x l ∙ a x l)))
 
   pub met-realizes : met (wantedOf job) (columnsAfter gs startColumns) p ≡ realizes job p gs
   unfolding met realizes rowAgrees

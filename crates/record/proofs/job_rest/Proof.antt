@@ -1,19 +1,11 @@
-use mathlib.Core.Path.{_∙_}
 use borrow.Author.Needs.{needs}
-use Rattle.logic.specs.Rules.{rule}
 use Rattle.record.specs.Inner.{jobRest}
 use Rattle.record.proofs.job_rest.Statement.{statement}
 use Rattle.record.proofs.job_rest.Tie as tie
 
 returns : tie.Need-returns
 unfolding jobRest
-returns c =
-    let r = c .before .before .before .before .before .before in
-    let rows = r .before .rule .ensures ∙ (λ i. rule (r .before .before .rows-ok .ensures i) 6 0) in
-    let held = r .rule2 .ensures ∙ (λ i. rule (r .before .before .before .durations-ok .ensures i) 5 (rows i)) in
-    let few = c .before .before .rule3 .ensures ∙ (λ i. rule (c .before .before .before .limit-ok .ensures i) 4 (held i)) in
-    let head = c .before .rule4 .ensures ∙ (λ i. rule (c .before .before .before .before .head-ok .ensures i) 3 (few i)) in
-    c .rule5 .ensures ∙ (λ i. rule (c .before .before .before .before .before .size-ok .ensures i) 2 (head i))
+returns c = cc
 
 pub job-rest-spec : {M : Type 1} → statement M
 job-rest-spec =

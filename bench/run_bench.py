@@ -1,8 +1,8 @@
 #!/usr/bin/env python3
 """The proved search, the plain one and a SAT solver side by side: one table, one run, one core.
 
-usage: run_bench.py MAIN_BINARY [--rules base|full|max] [--sboxes] [--no-sat] [--cap SECONDS]
-                    [--repeat N] [--only TEXT] [--target FOLDER]
+usage: run_bench.py MAIN_BINARY [--rules base|full|max] [--sboxes] [--no-sat] [--direct]
+                    [--cap SECONDS] [--repeat N] [--only TEXT] [--target FOLDER]
 
 MAIN_BINARY is the proved program (`target/bin/main`), or `-` for the others alone. plain.rs is
 compiled with `rustc -O` into --target (default: a temporary folder). All programs get the
@@ -172,7 +172,7 @@ def table(columns, jobs, cap, repeat):
     return agreed
 
 
-def sat_pair(solver, record, line, cap, repeat):
+def sat_pair(solver, direct, record, line, cap, repeat):
     """The solver's runs on "at most K gates?" and "at most K - 1?", where the line (the answer at
     unit prices) says K, and what is wrong with its answers ("" if nothing). For the line "none"
     the first is left out."""
@@ -183,7 +183,7 @@ def sat_pair(solver, record, line, cap, repeat):
     for i, most in ((0, least), (1, least - 1)):
         if i == 0 and not found or most < 0:
             continue
-        question = sat.Question(n, m, free, rows, most)
+        question = sat.Question(n, m, free, rows, most, direct)
         runs[i] = best_of([solver, "-q"], question.dimacs(), cap, repeat, codes=(10, 20))
         if runs[i].capped:
             continue
@@ -195,7 +195,7 @@ def sat_pair(solver, record, line, cap, repeat):
     return runs, wrong
 
 
-def sbox_table(proved, plain, solver, jobs, cap, repeat):
+def sbox_table(proved, plain, solver, direct, jobs, cap, repeat):
     """Prints the table of the S-boxes; a missing program is None. True if all agree."""
     print(f"{'job':{WIDTH}}{'proved':>10}{'plain':>10}{'ratio':>9}{'sat K':>10}{'sat K-1':>10}{'sat/proved':>11}  answer")
     agreed, least, pairs = True, {}, {}
@@ -208,7 +208,7 @@ def sbox_table(proved, plain, solver, jobs, cap, repeat):
             if unit not in least:
                 run = timed([plain[0], "--rules", "max"], unit, cap)
                 least[unit] = None if run.capped else run.output
-            pairs[unit] = sat_pair(solver, unit, least[unit], cap, repeat) if least[unit] else ([], "")
+            pairs[unit] = sat_pair(solver, direct, unit, least[unit], cap, repeat) if least[unit] else ([], "")
         pair, wrong = pairs.get(unit, ([], ""))
         answer = " ".join(filter(None, [answer_text(ended), wrong]))
         agreed = agreed and not wrong and "DIFFERENT" not in answer
@@ -225,7 +225,7 @@ sat K, sat K-1: cadical on "is there a circuit of at most K gates?" (yes) and "o
 where K is the least number of gates. It is told K: from the answer at prices 1,1,1 of the proved
 program, else of plain.rs, else of plain.rs --rules max (not timed). Both are questions on the number
 of gates alone, so they are asked once for a layout, and the rows of other prices show them again.
-The making of the CNF (sat.py) isn't counted. sat/proved: both questions together over proved.
+The CNF is sat.py's {encoding} encoding; its making isn't counted. sat/proved: both questions together over proved.
 >= or <=: one side was ended at the cap (wall clock), and the ratio is a bound from the seconds it had used."""
 
 
@@ -235,6 +235,7 @@ def main():
     parser.add_argument("--rules", choices=["base", "full", "max"], default="full", help="of plain.rs; full has the rules of the program")
     parser.add_argument("--sboxes", action="store_true", help="the S-boxes of 002 at limit 12")
     parser.add_argument("--no-sat", action="store_true", help="leave the SAT solver out")
+    parser.add_argument("--direct", action="store_true", help="the direct SAT encoding instead of the strong one")
     parser.add_argument("--cap", type=float, help="seconds for a job and program: 60, with --sboxes 20")
     parser.add_argument("--repeat", type=int, default=1, help="runs of each; the least time counts")
     parser.add_argument("--only", default="", help="only the jobs whose name holds this text")
@@ -253,10 +254,10 @@ def main():
         print(f"processor seconds, one core, least of {args.repeat}; plain.rs at --rules {rules}; cap {cap:g} s")
         if args.sboxes:
             solver = None if args.no_sat else shutil.which("cadical")
-            print(SBOX_HEADER.format(rules=rules))
+            print(SBOX_HEADER.format(rules=rules, encoding="direct" if args.direct else "strong"))
             print("" if solver else "No SAT solver in this run.\n", flush=True)
             jobs = [entry for entry in sbox_jobs() if args.only in entry[0]]
-            agreed = sbox_table(proved, plain, solver, jobs, cap, args.repeat)
+            agreed = sbox_table(proved, plain, solver, args.direct, jobs, cap, args.repeat)
         else:
             columns = ([("proved", proved)] if proved else []) + [("plain", plain)]
             jobs = [entry for entry in small_jobs() if args.only in entry[0]]

@@ -10,6 +10,8 @@ A CNF is a list of clauses, a clause a list of literals: a variable, or minus it
 The first values are the row's bits, and 0 for the ancilla; its end value is free. Of two
 neighbouring gates that commute the first has the lower byte (a circuit of fewest gates has such
 an order, and no gate twice in a row), which is the only symmetry broken.
+With `direct` the helpers and the order are left out, and each gate says itself what it does to
+each wire: the first encoding that comes to mind.
 """
 
 
@@ -30,8 +32,8 @@ def commute(a, b):
 class Question:
     """At most `positions` gates for the table of a job's row bytes (care mask, value)."""
 
-    def __init__(self, n, m, free, rows, positions):
-        self.n, self.free, self.rows = n, free, rows
+    def __init__(self, n, m, free, rows, positions, direct=False):
+        self.n, self.free, self.rows, self.direct = n, free, rows, direct
         self.wires = n + m
         self.gates = lawful_gates(self.wires)
         self.variables, self.clauses = 0, []
@@ -41,7 +43,7 @@ class Question:
         self.start()
         for position in range(positions):
             self.choose(position)
-            self.step(position)
+            (self.step_directly if direct else self.step)(position)
         self.end()
 
     def fresh(self, count):
@@ -75,10 +77,29 @@ class Question:
         if position == 0:
             return
         self.say(-self.idle[position - 1], self.idle[position])
+        if self.direct:
+            return
         for a, first in zip(self.gates, self.choices[position - 1]):
             for b, second in zip(self.gates, self.choices[position]):
                 if b <= a and commute(a, b):
                     self.say(-first, -second)
+
+    def step_directly(self, position):
+        chosen = [(None, self.idle[position])] + list(zip(self.gates, self.choices[position]))
+        for before, after in zip(self.values[position], self.values[position + 1]):
+            for gate, choice in chosen:
+                for wire, (old, new) in enumerate(zip(before, after)):
+                    if gate is None or gate >> 5 != wire:
+                        self.say(-choice, -old, new)
+                        self.say(-choice, old, -new)
+                        continue
+                    controls = [before[i] for i in range(self.wires) if gate >> i & 1]
+                    for control in controls:
+                        self.say(-choice, control, -old, new)
+                        self.say(-choice, control, old, -new)
+                    off = [-control for control in controls]
+                    self.say(-choice, *off, old, new)
+                    self.say(-choice, *off, -old, -new)
 
     def step(self, position):
         chosen = list(zip(self.gates, self.choices[position]))

@@ -27,17 +27,10 @@ import threading
 import sat
 
 HERE = os.path.dirname(os.path.abspath(__file__))
-SBOXES = {
-    "GIFT": "1A4C6F392DB7508E",
-    "PRESENT": "C56B90AD3EF84712",
-    "RECTANGLE": "65CA1E79B03D8F42",
-    "SKINNY": "C6901A2B385D4E7F",
-    "MIDORI": "CAD3EBF789150246",
-    "ELEPHANT": "EDB0214F7A859C36",
-    "LBLOCK": "E9F0D4AB128376C5",
-    "UBLOCK": "749CBAD8FE160325",
-    "inverse (m=1)": "062493D51EC78ABF",
-}
+sys.path.insert(0, os.path.join(os.path.dirname(HERE), "tools"))
+from jobs import after, job, sbox  # noqa: E402
+
+SBOXES = ["GIFT", "PRESENT", "RECTANGLE", "SKINNY", "MIDORI", "ELEPHANT", "LBLOCK", "UBLOCK", "inverse (m=1)"]
 UNIT = (1, 1, 1)
 LIMIT = 12
 WIDTH = 27  # of a job's name
@@ -45,27 +38,9 @@ WIDTH = 27  # of a job's name
 Run = collections.namedtuple("Run", "output seconds capped")
 
 
-def job(values, limit, m=0, free=0, prices=(1, 1, 5), durations=(1, 1, 7), care=15):
-    """A job's bytes: no limit on cost and depth, the same care mask in every row."""
-    n = 3 if len(values) == 8 else 4
-    care &= (1 << n) - 1
-    head = [n << 5 | m << 3 | free << 2, limit, 255, 255, 255, 255]
-    return bytes(head + list(prices) + list(durations) + [care << 4 | value & care for value in values])
-
-
-def sbox(name):
-    return [int(digit, 16) for digit in SBOXES[name]]
-
-
-def after(gates, n):
-    """The table of a list of gate bytes."""
-    values = []
-    for value in range(1 << n):
-        for gate in gates:
-            if value & gate & 31 == gate & 31:
-                value ^= 1 << (gate >> 5)
-        values.append(value & ((1 << n) - 1))
-    return values
+def some(values, limit, outputs, **fields):
+    """A job that wants the same outputs in every row: no limit on cost and depth."""
+    return job(values, limit, masks=[outputs] * len(values), **fields)
 
 
 def small_jobs():
@@ -77,15 +52,15 @@ def small_jobs():
     exchange = list(range(7)) + [15] + list(range(8, 15)) + [7]
     yield "W=3 limit 8, 8 gates", job(hardest, 8)
     yield "W=3 limit 8, same, free", job(hardest, 8, free=1)
-    yield "W=3 limit 8, two outputs", job(product_3, 8, care=3)
+    yield "W=3 limit 8, two outputs", some(product_3, 8, 3)
     for limit in (4, 5, 6, 7):
         yield f"W=4 limit {limit}, {limit} gates", job(after(seven[:limit], 4), limit)
         yield f"W=4 limit {limit}, PRESENT free", job(sbox("PRESENT"), limit, free=1)
-        yield f"W=4 limit {limit}, two outputs", job(product_4, limit, care=3)
+        yield f"W=4 limit {limit}, two outputs", some(product_4, limit, 3)
     for limit in (3, 4):
         yield f"W=5 limit {limit}, rows 7/15", job(exchange, limit, m=1)
         yield f"W=5 limit {limit}, same, free", job(exchange, limit, m=1, free=1)
-        yield f"W=5 limit {limit}, one output", job(product_4, limit, m=1, care=1)
+        yield f"W=5 limit {limit}, one output", some(product_4, limit, 1, m=1)
 
 
 def sbox_jobs():
@@ -93,7 +68,7 @@ def sbox_jobs():
     for name in SBOXES:
         for free in (0, 1):
             def record(prices):
-                return job(sbox(name), LIMIT, m=int("m=1" in name), free=free, prices=prices)
+                return job(sbox(name.split()[0]), LIMIT, m=int("m=1" in name), free=free, prices=prices)
 
             for prices in (UNIT, (1, 1, 5)):
                 layout = "free" if free else "fixed"

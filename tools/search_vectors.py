@@ -20,15 +20,13 @@ import subprocess
 import sys
 import tempfile
 
+from jobs import NO_LIMIT, after, job, sbox
+
 HERE = os.path.dirname(os.path.abspath(__file__))
 SAMPLE_ROWS = [0, 2, 1, 3, 4, 6, 5, 7]
 ODD_TABLE = list(range(7)) + [15] + list(range(8, 15)) + [7]  # rows 7 and 15 exchanged
 EXCHANGE_3_7 = [0, 1, 2, 7, 4, 5, 6, 3]
-PROST = [int(digit, 16) for digit in "048F15E927ACBD63"]
-GIFT = [int(digit, 16) for digit in "1A4C6F392DB7508E"]
-LBLOCK = [int(digit, 16) for digit in "E9F0D4AB128376C5"]
-UBLOCK = [int(digit, 16) for digit in "749CBAD8FE160325"]
-NO_LIMIT = 0xFFFF
+PROST, GIFT, LBLOCK, UBLOCK = (sbox(name) for name in ("PROST", "GIFT", "LBLOCK", "UBLOCK"))
 
 
 # Jobs found by tools/mutants.py that show a wrong order of keys or a parity cut too wide.
@@ -122,31 +120,6 @@ RANDOM = """
 6404FFFF00050502010203016466626660626460
 6404FFFF00050502010203016466626660626460
 """.split()
-
-
-def job(values, limit, m=0, free=0, cost=NO_LIMIT, depth=NO_LIMIT, prices=(1, 1, 5),
-        durations=(1, 1, 7), masks=None):
-    """A job's bytes; value bits outside the care masks are dropped."""
-    n = 3 if len(values) == 8 else 4
-    masks = masks or [(1 << n) - 1] * len(values)
-    head = [n << 5 | m << 3 | free << 2, limit, cost >> 8, cost & 255, depth >> 8, depth & 255]
-    rows = [mask << 4 | value & mask for mask, value in zip(masks, values)]
-    return bytes(head + list(prices) + list(durations) + rows)
-
-
-def after(gates, n, m=0):
-    """The data wires after this list of gate bytes, for every row."""
-    values = []
-    for gate in gates:
-        target, controls = gate >> 5, gate & 31
-        assert target < n + m and controls < 1 << n + m and not controls >> target & 1
-        assert bin(controls).count("1") <= 2
-    for value in range(1 << n):
-        for gate in gates:
-            if value & gate & 31 == gate & 31:
-                value ^= 1 << (gate >> 5)
-        values.append(value & ((1 << n) - 1))
-    return values
 
 
 def placed(values, wires):

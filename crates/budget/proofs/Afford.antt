@@ -1,49 +1,40 @@
 -- A list's gates cost at least the least price each, and its heavy gates the difference more: so a budget bounds the length.
+use mathlib.Core.Path.{_≡_}
+use mathlib.Core.Logic.{⊎-elim}
 use mathlib.Core.Bool.{Bool, true, false}
 use mathlib.Core.List.{List, [], _∷_}
-use Prim.Native.Nat.{ℕ, zero, suc, _+_, _-_, _*_, _≤_}
-use native.Mathlib.Nat.{mul-le-mul, mul-le-mul-right, le-div-iff-mul-le}
+use Prim.Native.Nat.{ℕ, zero, suc, _+_, _-_, _*_, _≤_, _<_, min}
+use native.Mathlib.Nat.{mul-le-mul, mul-le-mul-right, le-div-iff-mul-le, eq-or-lt-of-le}
 use native.Mathlib.Omega.{arith}
-use borrow.Author.Tests.{le-leb, ne-eqb}
-use lib.Count.{ones}
-use lib.Dec.{leb}
+use borrow.Author.Tests.{ne-eqb}
 use lib.ListN.{length}
-use Rattle.logic.specs.Rules.{pick}
-use Rattle.logic.specs.Lists.{total}
-use Rattle.gate.specs.Gates.{maskOf, kindFor, gateOf}
-use Rattle.circuit.specs.declared.Weights.{Weights}
-use Rattle.circuit.specs.Measure.{weightFor, weightOf, cost}
+use Rattle.logic.specs.Rules.{pick, bit}
+use Rattle.logic.specs.Lists.{total, Among}
+use Rattle.logic.proofs.Counts.{bit-le}
+use Rattle.logic.proofs.Members.{among-head, among-tail}
+use Rattle.circuit.specs.Measure.{cost}
 use Rattle.budget.specs.Heavy.{heavy, heavies}
-use Rattle.budget.specs.Afford.{lowOf, extraOf, reach}
+use Rattle.budget.specs.Afford.{CostsAtLeast, reach}
 
 -- twelve gates at any price fit a word
 pub product-le : {needed extra : ℕ} → needed ≤ 12 → extra ≤ 255 → needed * extra ≤ 3060
 product-le h k = mul-le-mul h k
 
-module _ (low extra : ℕ) (price : ℕ → ℕ) (least : (b : ℕ) → low + pick (heavy b) extra 0 ≤ price b) where
-  -- a gate, heavy or not, before a list that costs its least
-  joined : (t : Bool) (n h p c : ℕ) → low + pick t extra 0 ≤ p → n * low + h * extra ≤ c → suc n * low + (pick t 1 0 + h) * extra ≤ p + c
-  joined true n h p c k l = omega arith
-  joined false n h p c k l = omega arith
+-- the least of the first numbers, and one more
+pub least-turn : (f : ℕ → ℕ) (i old next x : ℕ) → next ≡ min old x → x ≡ f i → ((j : ℕ) → j < i → old ≤ f j) → (j : ℕ) → j < i + 1 → next ≤ f j
+least-turn f i old next x en ex h j hj =
+    ⊎-elim (λ (e : j ≡ i). rw (e, ← ex) (omega arith)) (λ (k : j < i). let b = h j k in omega arith) (eq-or-lt-of-le {n = j} {m = i} (omega arith))
 
-  pub price-least : (e : List ℕ) → length e * low + heavies e * extra ≤ cost price e
-  unfolding heavies total
-  price-least [] = omega arith
-  price-least (b ∷ e) = joined (heavy b) (length e) (heavies e) (price b) (cost price e) (least b) (price-least e)
+-- a heavy gate that costs no less than `least`, and any gate that costs no less than `low`
+pub extra-least : (t : Bool) (low least price : ℕ) → low ≤ price → least ≤ pick t price 255 → low + pick t (least - low) 0 ≤ price
+extra-least true low least price h k = omega arith
+extra-least false low least price h k = omega arith
 
--- the price of a gate by the number of its controls
-by-controls : (ws : Weights) (n m : ℕ) → lowOf ws + pick (leb 2 n) (extraOf ws) 0 ≤ weightFor ws (kindFor n m)
-unfolding lowOf extraOf
-by-controls ws zero m = omega arith
-by-controls ws (suc zero) m = omega arith
-by-controls ws (suc (suc n)) m = rw (le-leb 2 (suc (suc n)) (omega arith)) (omega arith)
-
-least-price : (ws : Weights) (b : ℕ) → lowOf ws + pick (heavy b) (extraOf ws) 0 ≤ weightOf ws b
-unfolding heavy weightOf gateOf
-least-price ws b = by-controls ws (ones (maskOf b)) (maskOf b)
-
-pub cost-least : (ws : Weights) (e : List ℕ) → length e * lowOf ws + heavies e * extraOf ws ≤ cost (weightOf ws) e
-cost-least ws e = price-least (lowOf ws) (extraOf ws) (weightOf ws) (least-price ws) e
+-- heavy gates are gates
+pub heavies-most : (e : List ℕ) → heavies e ≤ length e
+unfolding heavies total
+heavies-most [] = omega arith
+heavies-most (b ∷ e) = omega (arith, bit-le (heavy b), heavies-most e)
 
 -- n gates that fit the budget are within reach of it
 within-reach : (low extra needed spare remaining n : ℕ) → n * low + needed * extra ≤ spare → n ≤ remaining → n ≤ reach low extra needed spare remaining
@@ -53,11 +44,22 @@ within-reach (suc low) extra needed spare remaining n h l =
     let m : n * suc low ≤ spare - needed * extra = omega arith in
     rw (ne-eqb (suc low) 0 (λ e. omega arith)) (omega (arith, le-div-iff-mul-le {k = suc low} (omega arith) .1 m))
 
-pub reach-most : (ws : Weights) (e : List ℕ) (needed spare remaining : ℕ) → needed ≤ heavies e → cost (weightOf ws) e ≤ spare
-    → length e ≤ remaining
-    → length e ≤ reach (lowOf ws) (extraOf ws) needed spare remaining
-reach-most ws e needed spare remaining h c l =
-    within-reach (lowOf ws) (extraOf ws) needed spare remaining (length e) (omega (arith, cost-least ws e, mul-le-mul-right (extraOf ws) h)) l
+module _ (low extra : ℕ) (gates : List ℕ) (price : ℕ → ℕ) (least : CostsAtLeast low extra gates price) where
+  -- a gate, heavy or not, before a list that costs its least
+  joined : (t : Bool) (n h p c : ℕ) → low + pick t extra 0 ≤ p → n * low + h * extra ≤ c → suc n * low + (bit t + h) * extra ≤ p + c
+  joined true n h p c k l = omega arith
+  joined false n h p c k l = omega arith
 
-pub afford : (ws : Weights) (e : List ℕ) (needed spare : ℕ) → needed ≤ heavies e → cost (weightOf ws) e ≤ spare → needed * extraOf ws ≤ spare
-afford ws e needed spare h c = omega (arith, cost-least ws e, mul-le-mul-right (extraOf ws) h)
+  cost-least : (e : List ℕ) → Among gates e → length e * low + heavies e * extra ≤ cost price e
+  unfolding heavies total
+  cost-least [] among = omega arith
+  cost-least (b ∷ e) among =
+      joined (heavy b) (length e) (heavies e) (price b) (cost price e) (least b (among-head among)) (cost-least e (among-tail among))
+
+  module _ (e : List ℕ) (among : Among gates e) (needed spare : ℕ) (h : needed ≤ heavies e) (c : cost price e ≤ spare) where
+    pub reach-most : (remaining : ℕ) → length e ≤ remaining → length e ≤ reach low extra needed spare remaining
+    reach-most remaining l =
+        within-reach low extra needed spare remaining (length e) (omega (arith, cost-least e among, mul-le-mul-right extra h)) l
+
+    pub afford : needed * extra ≤ spare
+    afford = omega (arith, cost-least e among, mul-le-mul-right extra h)

@@ -4,7 +4,7 @@ use mathlib.Core.List.{List}
 use Prim.Native.Nat.{ℕ}
 use lib.Count.{ones}
 use lib.Dec.{leb}
-use Rattle.logic.specs.Rules.{pick}
+use Rattle.logic.specs.Rules.{bit}
 use Rattle.logic.specs.Lists.{total}
 use Rattle.gate.specs.Gates.{maskOf}
 
@@ -14,4 +14,4 @@ heavy b = leb 2 (ones (maskOf b))
 
 -- how many gates of the list are such
 unfoldable pub heavies : List ℕ → ℕ
-heavies l = total (λ b. pick (heavy b) 1 0) l
+heavies l = total (λ b. bit (heavy b)) l

@@ -16,16 +16,12 @@ fewer old new = pick (eqb old 0) new (min old new)
 unfoldable pub offer : ℕ → ℕ → List ℕ → List ℕ
 offer c new marks = set marks c (fewer (getD marks c 0) new)
 
--- the marks after one is offered at each sum of s and a gate's price
-unfoldable pub spread : (ℕ → ℕ) → ℕ → ℕ → List ℕ → List ℕ → List ℕ
-spread price s new gates marks = along (λ g. offer (s + price g) new) gates marks
+-- the marks after one is offered at each sum of s and a price
+unfoldable pub spread : ℕ → ℕ → List ℕ → List ℕ → List ℕ
+spread s new prices marks = along (λ c. offer (s + c) new) prices marks
 
 -- the empty list's cost is marked, and with each cost that leaves a gate of the limit that of one gate more, as far as the marks go
-pub record Marked (price : ℕ → ℕ) (gates : List ℕ) (limit : ℕ) (marks : List ℕ) : Type 0 where
+pub record Marked (prices : List ℕ) (limit : ℕ) (marks : List ℕ) : Type 0 where
   pub none : 0 < length marks → getD marks 0 0 ≡ 1
-  pub more : (s g : ℕ) → List·Memᴰ g gates → 0 < getD marks s 0 → getD marks s 0 ≤ limit → s + price g < length marks
-      → (0 < getD marks (s + price g) 0) × (getD marks (s + price g) 0 ≤ getD marks s 0 + 1)
-
--- every element of e is one of the gates
-abbrev pub Among : List ℕ → List ℕ → Type 0
-Among gates e = (g : ℕ) → List·Memᴰ g e → List·Memᴰ g gates
+  pub more : (s c : ℕ) → List·Memᴰ c prices → 0 < getD marks s 0 → getD marks s 0 ≤ limit → s + c < length marks
+      → (0 < getD marks (s + c) 0) × (getD marks (s + c) 0 ≤ getD marks s 0 + 1)

@@ -1,12 +1,11 @@
 // What gates still to come cost at least, and which costs a gate list can have.
-use circuit::Weights;
 ghost use mathlib.Core.Path.{_≡_};
-ghost use Prim.Native.Nat.{_+_, _-_, _*_, _/_, _≤_, _<_, min};
+ghost use Prim.Native.Nat.{ℕ, _+_, _-_, _*_, _/_, _≤_, _<_, min};
 ghost use lib.Dec.{ltb};
-ghost use lib.ListN.{length};
-ghost use Rattle.gate.specs.Gates.{gatesFor};
-ghost use Rattle.circuit.specs.Measure.{weightOf};
-ghost use Rattle.budget.specs.Afford.{lowOf, extraOf, reach};
+ghost use lib.ListN.{length, getD};
+ghost use Rattle.logic.specs.Rules.{pick};
+ghost use Rattle.budget.specs.Heavy.{heavy};
+ghost use Rattle.budget.specs.Afford.{reach};
 ghost use Rattle.budget.specs.Sums.{fewer, offer, spread, Marked};
 
 fn lesser(a: usize, b: usize) -> usize
@@ -30,24 +29,48 @@ fn quotient(sum: usize, price: usize) -> usize
     if price == 1 { sum } else { sum / price }
 }
 
-// The least price of any gate.
-pub fn low(prices: Weights) -> usize
-    ensures { λ r. ⌜ r ≡ lowOf prices ⌝ }
-    ensures { λ r. ⌜ r ≤ 255 ⌝ }
+// Whether a gate has two or more controls.
+pub fn heavy(g: u8) -> bool
+    ensures { λ r. ⌜ r ≡ heavy g ⌝ }
 {
-    let not = logic::wide(prices.not);
-    lesser(
-        not,
-        lesser(logic::wide(prices.cnot), logic::wide(prices.toffoli)),
-    )
+    2 <= u8::count_ones(g % 32)
 }
 
-// How much more than the least price a gate of two or more controls costs.
-pub fn extra(prices: Weights) -> usize
-    ensures { λ r. ⌜ r ≡ extraOf prices ⌝ }
+// The least of the prices, and 255 where there is none.
+pub fn low(prices: &[u8]) -> usize
+    ensures { λ r. ⌜ ((i : ℕ) → i < length (now (prices .entry)) → r ≤ getD (now (prices .entry)) i 0) ⌝ }
     ensures { λ r. ⌜ r ≤ 255 ⌝ }
 {
-    above(logic::wide(prices.toffoli), low(prices))
+    let mut least = 255;
+    let mut i = 0;
+    while i < prices.len() {
+        least = lesser(least, logic::wide(prices[i]));
+        i += 1;
+    }
+    least
+}
+
+// The price of a heavy gate, and 255 for any other.
+fn heavy_price(g: u8, price: u8) -> usize
+    ensures { λ r. ⌜ r ≡ pick (heavy g) price 255 ⌝ }
+    ensures { λ r. ⌜ r ≤ 255 ⌝ }
+{
+    if heavy(g) { logic::wide(price) } else { 255 }
+}
+
+// How much more than the least price each heavy gate costs.
+pub fn extra(gates: &[u8], prices: &[u8], low: usize) -> usize
+    requires { ⌜ ((i : ℕ) → i < length (now prices) → low ≤ getD (now prices) i 0) ⌝ }
+    ensures { λ r. ⌜ ((i : ℕ) → i < length (now (prices .entry)) → low + pick (heavy (getD (now (gates .entry)) i 0)) r 0 ≤ getD (now (prices .entry)) i 0) ⌝ }
+    ensures { λ r. ⌜ r ≤ 255 ⌝ }
+{
+    let mut least = 255;
+    let mut i = 0;
+    while i < prices.len() {
+        least = lesser(least, heavy_price(logic::at(gates, i), prices[i]));
+        i += 1;
+    }
+    above(least, low)
 }
 
 // Whether the heavy gates still needed cost, above the least price, more than is left.
@@ -91,26 +114,22 @@ fn mark_sum(s: usize, price: usize, new: u8, marks: &mut [u8])
 }
 
 // Offers a mark to the costs that one gate more makes of the cost `s`.
-fn mark_from(prices: Weights, wires: usize, s: usize, new: u8, marks: &mut [u8])
-    requires { ⌜ (3 ≤ wires) × (wires ≤ 5) ⌝ }
+fn mark_from(prices: &[u8], s: usize, new: u8, marks: &mut [u8])
     requires { ⌜ s ≤ length (now marks) ⌝ }
-    ensures { λ _. ⌜ now (marks .exit) ≡ spread (weightOf prices) s new (gatesFor 2 wires) (now (marks .entry)) ⌝ }
+    ensures { λ _. ⌜ now (marks .exit) ≡ spread s new (now (prices .entry)) (now (marks .entry)) ⌝ }
 {
-    let count = gate::gate_count(wires);
     let mut i = 0;
-    while i < count {
-        let g = gate::gate_at(wires, i);
-        mark_sum(s, logic::wide(circuit::weight(prices, g)), new, marks);
+    while i < prices.len() {
+        mark_sum(s, logic::wide(prices[i]), new, marks);
         i += 1;
     }
 }
 
-// Marks every cost below the slice's length that a list of at most `limit` gates on `wires` wires can have.
-pub fn mark(prices: Weights, wires: usize, limit: usize, marks: &mut [u8])
-    requires { ⌜ (3 ≤ wires) × (wires ≤ 5) ⌝ }
+// Marks every cost below the slice's length that a list of at most `limit` gates at these prices can have.
+pub fn mark(prices: &[u8], limit: usize, marks: &mut [u8])
     requires { ⌜ limit ≤ 12 ⌝ }
     ensures { λ _. ⌜ length (now (marks .exit)) ≡ length (now (marks .entry)) ⌝ }
-    ensures { λ _. ⌜ Marked (weightOf prices) (gatesFor 2 wires) limit (now (marks .exit)) ⌝ }
+    ensures { λ _. ⌜ Marked (now (prices .entry)) limit (now (marks .exit)) ⌝ }
 {
     mark_sum(0, 0, 1, marks);
     let mut s = 0;
@@ -118,7 +137,7 @@ pub fn mark(prices: Weights, wires: usize, limit: usize, marks: &mut [u8])
         let found = marks[s];
         // a mark is 1 more than its gates, so one up to the limit leaves a gate
         if logic::both(0 < found, logic::wide(found) <= limit) {
-            mark_from(prices, wires, s, found + 1, marks);
+            mark_from(prices, s, found + 1, marks);
         }
         s += 1;
     }

@@ -1,7 +1,7 @@
 -- The list of all choices by prefix: what a loop over the gates has passed, and which choices are in the list.
 use mathlib.Core.Path.{_≡_, refl, sym}
 use mathlib.Core.Bool.{Bool}
-use mathlib.Core.List.{List, [], _∷_, _++_, append-assoc, append-nil, List·Memᴰ, List·Memᴰ·not-nil, List·Memᴰ·cases-cons, List·Memᴰ·append-cases, Memᴰ·append-left, Memᴰ·append-right, Memᴰ·cast}
+use mathlib.Core.List.{List, [], _∷_, _++_, flatMap, append-assoc, append-nil, List·Memᴰ, List·Memᴰ·not-nil, List·Memᴰ·append-cases, Memᴰ·append-left, Memᴰ·append-right}
 use mathlib.Core.Option.{Option}
 use mathlib.Core.Logic.{_⊎_, ⊎-elim}
 use Prim.Native.Nat.{ℕ, zero, suc, _+_, _-_, _<_, _≤_}
@@ -10,8 +10,10 @@ use native.Mathlib.Nat.{not-suc-le-zero}
 use native.Mathlib.Omega.{arith}
 use lib.ListN.{length, take, getD}
 use lib.Seq.{take-suc, take-length}
-use Rattle.choice.specs.Choices.{Choice, attempt, improve, flatMap, under, below, Among}
-use Rattle.choice.proofs.First.{improve-append, improve-skip}
+use Rattle.logic.specs.Lists.{Among}
+use Rattle.logic.proofs.Members.{among-nil, among-cons, among-tail}
+use Rattle.choice.specs.Choices.{Choice, improve, under, below}
+use Rattle.choice.proofs.First.{improve-append}
 
 module _ {A B : Type 0} (f : A → List B) where
   pub flatMap-snoc : (l : List A) (a : A) → flatMap f (l ++ (a ∷ [])) ≡ flatMap f l ++ f a
@@ -32,9 +34,6 @@ module _ {A B : Type 0} (f : A → List B) where
       (λ (n : List·Memᴰ b (f x)). (x, (List·Memᴰ.List·Memᴰ·head refl, n)))
       (λ (n : List·Memᴰ b (flatMap f l)). let r = flatMap-is b l n in (r .0, (List·Memᴰ.List·Memᴰ·tail (r .1 .0), r .1 .1)))
       (List·Memᴰ·append-cases (f x) m)
-
-pub among-cons : {gates : List ℕ} {g : ℕ} {e : List ℕ} → List·Memᴰ g gates → Among gates e → Among gates (g ∷ e)
-among-cons {gates} {g} {e} m w h n = ⊎-elim (λ (p : h ≡ g). Memᴰ·cast p m) (λ (p : List·Memᴰ h e). w h p) (List·Memᴰ·cases-cons n)
 
 module _ (here : List ℕ → List Choice) (gates l : List ℕ) (k : ℕ) where
   pub below-more : (i : ℕ) → i < length gates → below here gates l k (i + 1) ≡ below here gates l k i ++ under here gates (l ++ (getD gates i 0 ∷ [])) k
@@ -71,10 +70,10 @@ pub under-is : (here : List ℕ → List Choice) (gates l : List ℕ) (k : ℕ) 
     → List·Memᴰ a (under here gates l k)
     → (e : List ℕ) × (Among gates e × ((length e ≤ k) × List·Memᴰ a (here (l ++ e))))
 unfolding under
-under-is here gates l zero a m = ([], (λ g n. absurd (List·Memᴰ·not-nil n), (omega arith, rw append-nil m)))
+under-is here gates l zero a m = ([], (among-nil, (omega arith, rw append-nil m)))
 under-is here gates l (suc k) a m =
     ⊎-elim
-    (λ (n : List·Memᴰ a (here l)). ([], (λ g p. absurd (List·Memᴰ·not-nil p), (omega arith, rw append-nil n))))
+    (λ (n : List·Memᴰ a (here l)). ([], (among-nil, (omega arith, rw append-nil n))))
     (λ (n : List·Memᴰ a (flatMap (λ (g : ℕ). under here gates (l ++ (g ∷ [])) k) gates)).
     let r = flatMap-is (λ (g : ℕ). under here gates (l ++ (g ∷ [])) k) a gates n in
     let s = under-is here gates (l ++ (r .0 ∷ [])) k a (r .1 .1) in
@@ -96,11 +95,4 @@ under-has here gates l (suc k) a (g ∷ e) w n m =
     (flatMap-has
     (λ (h : ℕ). under here gates (l ++ (h ∷ [])) k)
     (w g (List·Memᴰ.List·Memᴰ·head refl))
-    (under-has here gates (l ++ (g ∷ [])) k a e (λ h p. w h (List·Memᴰ.List·Memᴰ·tail p)) (omega arith) (rw append-assoc m)))
-
--- all of them may be skipped where none of them changes what is held
-pub skip : (here : List ℕ → List Choice) (gates l : List ℕ) (k : ℕ) (good : Choice → Bool) (x : Option Choice)
-    → ((e : List ℕ) → Among gates e → length e ≤ k → (a : Choice) → List·Memᴰ a (here (l ++ e)) → attempt good x a ≡ x)
-    → improve good x (under here gates l k) ≡ x
-skip here gates l k good x h =
-    improve-skip good x (under here gates l k) λ a m. let r = under-is here gates l k a m in h (r .0) (r .1 .0) (r .1 .1 .0) a (r .1 .1 .1)
+    (under-has here gates (l ++ (g ∷ [])) k a e (among-tail w) (omega arith) (rw append-assoc m)))

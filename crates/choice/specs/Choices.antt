@@ -1,6 +1,6 @@
 -- Which choice comes first: the order of document 01, the first good choice of a list, and the list of all choices by prefix.
 use mathlib.Core.Bool.{Bool, true, false}
-use mathlib.Core.List.{List, [], _∷_, _++_, List·Memᴰ}
+use mathlib.Core.List.{List, [], _∷_, _++_, flatMap}
 use mathlib.Core.Option.{Option, none, some}
 use Prim.Native.Nat.{ℕ, zero, suc}
 use lib.Dec.{ltb}
@@ -44,11 +44,6 @@ unfoldable pub improve : (Choice → Bool) → Option Choice → List Choice →
 improve good held [] = held
 improve good held (a ∷ l) = improve good (attempt good held a) l
 
--- the lists that f makes of the elements, one after the other
-unfoldable pub flatMap : {A B : Type 0} → (A → List B) → List A → List B
-flatMap f [] = []
-flatMap f (x ∷ xs) = f x ++ flatMap f xs
-
 -- every choice whose list begins with l and goes on by at most k of the gates; `here` gives the choices of one list
 unfoldable pub under : (List ℕ → List Choice) → List ℕ → List ℕ → ℕ → List Choice
 under here gates l zero = here l
@@ -57,7 +52,3 @@ under here gates l (suc k) = here l ++ flatMap (λ (g : ℕ). under here gates (
 -- the part of them that goes on by one of the first i gates, and then by at most k more
 abbrev pub below : (List ℕ → List Choice) → List ℕ → List ℕ → ℕ → ℕ → List Choice
 below here gates l k i = flatMap (λ (g : ℕ). under here gates (l ++ (g ∷ [])) k) (take i gates)
-
--- every element of e is one of the gates
-abbrev pub Among : List ℕ → List ℕ → Type 0
-Among gates e = (g : ℕ) → List·Memᴰ g e → List·Memᴰ g gates

@@ -1,10 +1,10 @@
 -- Gates are at most the wires times the depth, where every duration is at least 1: each gate moves the sum of the ready times on by at
--- least 1, and only the W wires of the list are ever held.
+-- least 1, and only the W wires of the list are ever held. So depth is never below the gates divided by the wires, rounded up.
 use mathlib.Core.Path.{_≡_, refl, sym, _∙_}
 use mathlib.Core.Bool.{Bool, true, false, not}
 use mathlib.Core.List.{List, [], _∷_}
-use Prim.Native.Nat.{ℕ, zero, suc, _+_, _*_, _≤_, _<_}
-use native.Mathlib.Nat.{suc-mul, not-suc-le-zero, le-of-suc-le-suc}
+use Prim.Native.Nat.{ℕ, zero, suc, _+_, _-_, _*_, _/_, _≤_, _<_}
+use native.Mathlib.Nat.{suc-mul, mul-comm, div-lt-iff-lt-mul, not-suc-le-zero, le-of-suc-le-suc}
 use native.Mathlib.Omega.{arith}
 use borrow.Author.Tests.{eq-eqb, le-leb, not-true}
 use lib.Dec.{leb}
@@ -17,7 +17,12 @@ use Rattle.logic.proofs.Below.{below}
 use Rattle.gate.specs.Gates.{targetOf, lawful, gateOf}
 use Rattle.gate.proofs.Widen.{parts, lawful-lt}
 use Rattle.circuit.specs.Measure.{hold, holdByte, idle, readyTimes, greatest, depth}
-use Rattle.circuit.proofs.Times.{Sooner, Until, holds, hold-at, hold-past, hold-rises, length-hold, until-greatest, wire-wise, start-after, idle-until}
+use Rattle.circuit.proofs.Times.{Sooner, Until, holds, hold-at, hold-past, hold-rises, length-hold}
+use Rattle.circuit.proofs.Times.{until-greatest, wire-wise, start-after, idle-until}
+
+-- n divided by w, rounded up
+abbrev pub roundedUp : ℕ → ℕ → ℕ
+roundedUp n w = (n + (w - 1)) / w
 
 sum : List ℕ → ℕ
 sum ts = total (λ t. t) ts
@@ -28,19 +33,22 @@ sum-sooner [] us l s = omega arith
 sum-sooner (t ∷ ts) [] l s = absurd (omega arith)
 sum-sooner (t ∷ ts) (u ∷ us) l s = omega (arith, s 0, sum-sooner ts us (omega arith) (λ w. s (suc w)))
 
-sum-later : (ts us : List ℕ) (d w : ℕ) → length ts ≡ length us → Sooner ts us → w < length ts → getD ts w 0 + d ≤ getD us w 0 → sum ts + d ≤ sum us
+sum-later : (ts us : List ℕ) (d w : ℕ) → length ts ≡ length us → Sooner ts us → w < length ts → getD ts w 0 + d ≤ getD us w 0
+    → sum ts + d ≤ sum us
 unfolding sum total
 sum-later [] us d w l s h g = absurd (not-suc-le-zero h)
 sum-later (t ∷ ts) [] d w l s h g = absurd (omega arith)
 sum-later (t ∷ ts) (u ∷ us) d zero l s h g = omega (arith, g, sum-sooner ts us (omega arith) (λ w. s (suc w)))
-sum-later (t ∷ ts) (u ∷ us) d (suc w) l s h g = omega (arith, s 0, sum-later ts us d w (omega arith) (λ w. s (suc w)) (le-of-suc-le-suc h) g)
+sum-later (t ∷ ts) (u ∷ us) d (suc w) l s h g =
+    omega (arith, s 0, sum-later ts us d w (omega arith) (λ w. s (suc w)) (le-of-suc-le-suc h) g)
 
 -- W numbers of at most m, and nothing past them
 sum-within : (ts : List ℕ) (w m : ℕ) → Until m ts → ((i : ℕ) → w ≤ i → getD ts i 0 ≡ 0) → sum ts ≤ w * m
 unfolding sum total
 sum-within [] w m u z = omega arith
 sum-within (t ∷ ts) zero m u z = omega (arith, z 0 (omega arith), sum-within ts zero m (λ i. u (suc i)) (λ i h. z (suc i) (omega arith)))
-sum-within (t ∷ ts) (suc w) m u z = rw (suc-mul w m) (omega (arith, u 0, sum-within ts w m (λ i. u (suc i)) (λ i h. z (suc i) (omega arith))))
+sum-within (t ∷ ts) (suc w) m u z =
+    rw (suc-mul w m) (omega (arith, u 0, sum-within ts w m (λ i. u (suc i)) (λ i h. z (suc i) (omega arith))))
 
 -- a gate that is lawful for w wires holds none from w on: computed for every byte, every w and every wire
 abbrev free : ℕ → ℕ → ℕ → Bool
@@ -62,7 +70,8 @@ module _ (w b : ℕ) (hw : w ≤ 5) (h : lawful 2 w b ≡ true) where
       not-true (holds (gateOf b) i)
       (implied (leb w i) (not (holds (gateOf b) i))
       (below 5 (free w b)
-      (implied (lawful 2 w b) (allBelow 5 (free w b)) (below 160 (frees w) (below 6 freesAll frees-all w (omega arith)) b (lawful-lt 2 w b hw h)) h)
+      (implied (lawful 2 w b) (allBelow 5 (free w b))
+      (below 160 (frees w) (below 6 freesAll frees-all w (omega arith)) b (lawful-lt 2 w b hw h)) h)
       i h5)
       (le-leb w i hi))
 
@@ -93,7 +102,8 @@ module _ (duration : ℕ → ℕ) (slow : (b : ℕ) → 1 ≤ duration b) (w : �
         arith,
         slow b,
         moves w b hw hb (duration b) ts l,
-        sum-grows gs (holdByte duration b ts) (both-right (lawful 2 w b) (allOf (lawful 2 w) gs) h) (length-hold (gateOf b) (duration b) ts ∙ l),
+        sum-grows gs (holdByte duration b ts) (both-right (lawful 2 w b) (allOf (lawful 2 w) gs) h)
+            (length-hold (gateOf b) (duration b) ts ∙ l),
       )
 
   quiet-run : (gs ts : List ℕ) → allOf (lawful 2 w) gs ≡ true → length ts ≡ 5 → ((i : ℕ) → w ≤ i → getD ts i 0 ≡ 0)
@@ -102,11 +112,12 @@ module _ (duration : ℕ → ℕ) (slow : (b : ℕ) → 1 ≤ duration b) (w : �
   quiet-run [] ts h l z = z
   quiet-run (b ∷ gs) ts h l z =
       let hb = both-left (lawful 2 w b) (allOf (lawful 2 w) gs) h in
-      quiet-run gs (holdByte duration b ts) (both-right (lawful 2 w b) (allOf (lawful 2 w) gs) h) (length-hold (gateOf b) (duration b) ts ∙ l)
+      quiet-run gs (holdByte duration b ts) (both-right (lawful 2 w b) (allOf (lawful 2 w) gs) h)
+      (length-hold (gateOf b) (duration b) ts ∙ l)
       (quiet w b hw hb (duration b) ts l z)
 
-  pub gates-most : (gs : List ℕ) → allOf (lawful 2 w) gs ≡ true → length gs ≤ w * depth duration gs
-  gates-most gs h =
+  pub gates-by-depth : (gs : List ℕ) → allOf (lawful 2 w) gs ≡ true → length gs ≤ w * depth duration gs
+  gates-by-depth gs h =
       let r = readyTimes duration gs in
       omega (
         arith,
@@ -116,3 +127,8 @@ module _ (duration : ℕ → ℕ) (slow : (b : ℕ) → 1 ≤ duration b) (w : �
     where
       le-zero : {n : ℕ} → n ≤ 0 → n ≡ 0
       le-zero h = omega arith
+
+  pub depth-least : (gs : List ℕ) → 0 < w → allOf (lawful 2 w) gs ≡ true → roundedUp (length gs) w ≤ depth duration gs
+  depth-least gs pos h =
+      let d = depth duration gs in
+      le-of-suc-le-suc (div-lt-iff-lt-mul pos .1 (omega (arith, gates-by-depth gs h, mul-comm w d, suc-mul d w)))

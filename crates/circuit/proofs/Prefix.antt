@@ -22,4 +22,5 @@ module _ (price duration : ℕ → ℕ) (l e : List ℕ) where
   depth-front = greatest-sooner (readyTimes duration l) (readyTimes duration (l ++ e)) ready-front
 
 pub depth-most : (duration : ℕ → ℕ) (gs : List ℕ) → depth duration gs ≤ total duration gs
-depth-most duration gs = greatest-until (readyTimes duration gs) (total duration gs) (λ w. omega (arith, ready-until duration gs idle 0 idle-until w))
+depth-most duration gs =
+    greatest-until (readyTimes duration gs) (total duration gs) (λ w. omega (arith, ready-until duration gs idle 0 idle-until w))

@@ -12,13 +12,15 @@ use Rattle.gate.specs.Inner.{columnStep}
 use Rattle.gate.proofs.Undo.{undo, stay}
 use Rattle.gate.proofs.Slices.{Row, row-step, length-step}
 use Rattle.circuit.specs.Run.{forwards, backwards}
+use Rattle.circuit.specs.Inner.{columnsAfter}
 
 module _ (k w : ℕ) where
   pub stays : (gs : List ℕ) (v : ℕ) → allOf (lawful k w) gs ≡ true → v < 2 ^ w → forwards gs v < 2 ^ w
   unfolding allOf along
   stays [] v h hv = hv
   stays (b ∷ gs) v h hv =
-      stays gs (step b v) (both-right (lawful k w b) (allOf (lawful k w) gs) h) (stay k w b v (both-left (lawful k w b) (allOf (lawful k w) gs) h) hv)
+      stays gs (step b v) (both-right (lawful k w b) (allOf (lawful k w) gs) h)
+      (stay k w b v (both-left (lawful k w b) (allOf (lawful k w) gs) h) hv)
 
   pub stays-back : (gs : List ℕ) (v : ℕ) → allOf (lawful k w) gs ≡ true → v < 2 ^ w → backwards gs v < 2 ^ w
   unfolding allOf back
@@ -35,10 +37,6 @@ module _ (k w : ℕ) where
       let hs = both-right (lawful k w b) (allOf (lawful k w) gs) h in
       ap (step b) (undone gs (step b v) hw hs (stay k w b v hb hv)) ∙ undo k w b v hw hb hv
 
--- the columns after a list
-abbrev pub columnsAfter : List ℕ → List ℕ → List ℕ
-columnsAfter gs cs = along (λ b. columnStep (gateOf b)) gs cs
-
 pub rows-run : (gs cs : List ℕ) (x v : ℕ) → allOf (lawful 2 5) gs ≡ true → length cs ≡ 5 → x < 16 → v < 32 → Row cs x v
     → Row (columnsAfter gs cs) x (forwards gs v)
 unfolding allOf along
@@ -47,3 +45,8 @@ rows-run (b ∷ gs) cs x v h hl hx hv r =
     let hb = both-left (lawful 2 5 b) (allOf (lawful 2 5) gs) h in
     rows-run gs (columnStep (gateOf b) cs) x (step b v) (both-right (lawful 2 5 b) (allOf (lawful 2 5) gs) h)
     (length-step (gateOf b) cs ∙ hl) hx (stay 2 5 b v hb hv) (row-step cs x v hx r b hb hl hv)
+
+pub columns-length : (gs cs : List ℕ) → length (columnsAfter gs cs) ≡ length cs
+unfolding along
+columns-length [] cs = refl
+columns-length (b ∷ gs) cs = columns-length gs (columnStep (gateOf b) cs) ∙ length-step (gateOf b) cs

@@ -14,6 +14,7 @@ use lib.ListN.{length, getD, set, length-set, List·getD-eq-default}
 use Rattle.logic.specs.Rules.{either, pick}
 use Rattle.logic.specs.Lists.{total, along}
 use Rattle.logic.proofs.Cells.{set-at}
+use Rattle.logic.proofs.Members.{spelled}
 use Rattle.logic.proofs.Chain.{either-cases}
 use Rattle.gate.specs.declared.Gate.{Gate}
 use Rattle.gate.specs.declared.Kind.{Kind}
@@ -37,13 +38,15 @@ length-controls (Toffoli a b) e ts = simp length-set
 
 pub length-hold : (g : Gate) (d : ℕ) (ts : List ℕ) → length (hold g d ts) ≡ length ts
 unfolding hold
-length-hold g d ts = length-set (holdControls (g .kind) (start g ts + d) ts) (g .target) (start g ts + d) ∙ length-controls (g .kind) (start g ts + d) ts
+length-hold g d ts =
+    length-set (holdControls (g .kind) (start g ts + d) ts) (g .target) (start g ts + d) ∙ length-controls (g .kind) (start g ts + d) ts
 
 nested : (s t : Bool) (e x : ℕ) → pick s e (pick t e x) ≡ pick (either s t) e x
 nested true t e x = refl
 nested false t e x = refl
 
-controls-at : (k : Kind) (e : ℕ) (ts : List ℕ) (w : ℕ) → w < length ts → getD (holdControls k e ts) w 0 ≡ pick (holdsControl k w) e (getD ts w 0)
+controls-at : (k : Kind) (e : ℕ) (ts : List ℕ) (w : ℕ) → w < length ts
+    → getD (holdControls k e ts) w 0 ≡ pick (holdsControl k w) e (getD ts w 0)
 controls-at Not e ts w h = refl
 controls-at (Cnot a) e ts w h = set-at ts a e w h
 controls-at (Toffoli a b) e ts w h =
@@ -52,10 +55,12 @@ controls-at (Toffoli a b) e ts w h =
     ∙ nested (eqb w b) (eqb w a) e (getD ts w 0)
 
 -- the wires that a gate holds become ready at its end, the others stay
-pub hold-at : (g : Gate) (d : ℕ) (ts : List ℕ) (w : ℕ) → w < length ts → getD (hold g d ts) w 0 ≡ pick (holds g w) (start g ts + d) (getD ts w 0)
+pub hold-at : (g : Gate) (d : ℕ) (ts : List ℕ) (w : ℕ) → w < length ts
+    → getD (hold g d ts) w 0 ≡ pick (holds g w) (start g ts + d) (getD ts w 0)
 unfolding hold
 hold-at g d ts w h =
-    set-at (holdControls (g .kind) (start g ts + d) ts) (g .target) (start g ts + d) w (rw (length-controls (g .kind) (start g ts + d) ts) h)
+    set-at (holdControls (g .kind) (start g ts + d) ts) (g .target)
+    (start g ts + d) w (rw (length-controls (g .kind) (start g ts + d) ts) h)
     ∙ ap (pick (eqb w (g .target)) (start g ts + d)) (controls-at (g .kind) (start g ts + d) ts w h)
     ∙ nested (eqb w (g .target)) (holdsControl (g .kind) w) (start g ts + d) (getD ts w 0)
 
@@ -70,14 +75,6 @@ Sooner ts us = (w : ℕ) → getD ts w 0 ≤ getD us w 0
 abbrev pub Until : ℕ → List ℕ → Type 0
 Until m ts = (w : ℕ) → getD ts w 0 ≤ m
 
-start-sooner : (g : Gate) (ts us : List ℕ) → Sooner ts us → start g ts ≤ start g us
-start-sooner g ts us h = by-kind (g .kind)
-  where
-    by-kind : (k : Kind) → max (getD ts (g .target) 0) (controlsReady k ts) ≤ max (getD us (g .target) 0) (controlsReady k us)
-    by-kind Not = omega (arith, h (g .target))
-    by-kind (Cnot a) = omega (arith, h (g .target), h a)
-    by-kind (Toffoli a b) = omega (arith, h (g .target), h a, h b)
-
 pub start-until : (g : Gate) (m : ℕ) (ts : List ℕ) → Until m ts → start g ts ≤ m
 start-until g m ts h = by-kind (g .kind)
   where
@@ -88,7 +85,9 @@ start-until g m ts h = by-kind (g .kind)
 
 -- a gate starts when all its wires are ready
 pub start-after : (g : Gate) (ts : List ℕ) (w : ℕ) → holds g w ≡ true → getD ts w 0 ≤ start g ts
-start-after g ts w h = ⊎-elim (λ e. same (g .target) (eqb-true w (g .target) e) (omega arith)) (λ e. by-kind (g .kind) e) (either-cases (eqb w (g .target)) (holdsControl (g .kind) w) h)
+start-after g ts w h =
+    ⊎-elim (λ e. same (g .target) (eqb-true w (g .target) e) (omega arith)) (λ e. by-kind (g .kind) e)
+    (either-cases (eqb w (g .target)) (holdsControl (g .kind) w) h)
   where
     same : {m : ℕ} (i : ℕ) → w ≡ i → getD ts i 0 ≤ m → getD ts w 0 ≤ m
     same i e h = rw e h
@@ -97,7 +96,8 @@ start-after g ts w h = ⊎-elim (λ e. same (g .target) (eqb-true w (g .target) 
     by-kind Not e = absurd (false≢true e)
     by-kind (Cnot a) e = same a (eqb-true w a e) (omega arith)
     by-kind (Toffoli a b) e =
-        ⊎-elim (λ e. same b (eqb-true w b e) (omega arith)) (λ e. same a (eqb-true w a e) (omega arith)) (either-cases (eqb w b) (eqb w a) e)
+        ⊎-elim (λ e. same b (eqb-true w b e) (omega arith)) (λ e. same a (eqb-true w a e) (omega arith))
+        (either-cases (eqb w b) (eqb w a) e)
 
 -- every wire of the list, or none past its end
 pub wire-wise : {P : ℕ → Type 0} (ts : List ℕ) → ((w : ℕ) → w < length ts → P w) → ((w : ℕ) → length ts ≤ w → P w) → (w : ℕ) → P w
@@ -110,7 +110,8 @@ wire-wise {P} ts f g w = go (decLt w (length ts))
 module _ (g : Gate) (d : ℕ) (ts : List ℕ) where
   -- no wire becomes ready earlier
   pub hold-rises : Sooner ts (hold g d ts)
-  hold-rises = wire-wise ts (λ w h. rw (hold-at g d ts w h) (inner w (holds g w) refl)) (λ w h. rw (List·getD-eq-default ts 0 h) (omega arith))
+  hold-rises =
+      wire-wise ts (λ w h. rw (hold-at g d ts w h) (inner w (holds g w) refl)) (λ w h. rw (List·getD-eq-default ts 0 h) (omega arith))
     where
       inner : (w : ℕ) (t : Bool) → holds g w ≡ t → getD ts w 0 ≤ pick t (start g ts + d) (getD ts w 0)
       inner w true e = omega (arith, start-after g ts w e)
@@ -124,36 +125,12 @@ module _ (g : Gate) (d : ℕ) (ts : List ℕ) where
       inner w true = omega (arith, start-until g m ts u)
       inner w false = omega (arith, u w)
 
-  -- a vector that is nowhere later stays so
-  pub hold-sooner : (us : List ℕ) → length ts ≡ length us → Sooner ts us → Sooner (hold g d ts) (hold g d us)
-  hold-sooner us l s =
-      wire-wise ts
-      (λ w h. rw (hold-at g d ts w h, hold-at g d us w (rw l at h)) (inner w (holds g w)))
-      (λ w h. rw (hold-past g d ts w h) (omega arith))
-    where
-      inner : (w : ℕ) (t : Bool) → pick t (start g ts + d) (getD ts w 0) ≤ pick t (start g us + d) (getD us w 0)
-      inner w true = omega (arith, start-sooner g ts us s)
-      inner w false = s w
-
 module _ (duration : ℕ → ℕ) where
-  pub length-ready : (gs : List ℕ) (ts : List ℕ) → length (along (holdByte duration) gs ts) ≡ length ts
-  unfolding along
-  length-ready [] ts = refl
-  length-ready (b ∷ gs) ts = length-ready gs (holdByte duration b ts) ∙ length-hold (gateOf b) (duration b) ts
-
   -- so the ready times of a list are never earlier than those of its front
   pub ready-rises : (gs ts : List ℕ) → Sooner ts (along (holdByte duration) gs ts)
   unfolding along
   ready-rises [] ts w = omega arith
   ready-rises (b ∷ gs) ts w = le-trans (hold-rises (gateOf b) (duration b) ts w) (ready-rises gs (holdByte duration b ts) w)
-
-  pub ready-sooner : (gs ts us : List ℕ) → length ts ≡ length us → Sooner ts us → Sooner (along (holdByte duration) gs ts) (along (holdByte duration) gs us)
-  unfolding along
-  ready-sooner [] ts us l s = s
-  ready-sooner (b ∷ gs) ts us l s =
-      ready-sooner gs (holdByte duration b ts) (holdByte duration b us)
-      (length-hold (gateOf b) (duration b) ts ∙ l ∙ sym (length-hold (gateOf b) (duration b) us))
-      (hold-sooner (gateOf b) (duration b) ts us l s)
 
   -- nor later than the sum of durations
   pub ready-until : (gs ts : List ℕ) (m : ℕ) → Until m ts → Until (m + total duration gs) (along (holdByte duration) gs ts)
@@ -179,13 +156,7 @@ greatest-sooner ts us s = greatest-until ts (greatest us) (λ w. le-trans (s w) 
 pub greatest-of-five : (ts : List ℕ) → length ts ≡ 5
     → greatest ts ≡ max (getD ts 0 0) (max (getD ts 1 0) (max (getD ts 2 0) (max (getD ts 3 0) (max (getD ts 4 0) 0))))
 unfolding greatest
-greatest-of-five [] h = absurd (omega arith)
-greatest-of-five (a ∷ []) h = absurd (omega arith)
-greatest-of-five (a ∷ b ∷ []) h = absurd (omega arith)
-greatest-of-five (a ∷ b ∷ c ∷ []) h = absurd (omega arith)
-greatest-of-five (a ∷ b ∷ c ∷ d ∷ []) h = absurd (omega arith)
-greatest-of-five (a ∷ b ∷ c ∷ d ∷ e ∷ []) h = refl
-greatest-of-five (a ∷ b ∷ c ∷ d ∷ e ∷ f ∷ ts) h = absurd (omega arith)
+greatest-of-five ts h = ap greatest (sym (spelled ts 5 h))
 
 pub idle-until : Until 0 idle
 idle-until zero = omega arith

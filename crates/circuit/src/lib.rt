@@ -4,9 +4,9 @@ use gate::Kind;
 ghost use mathlib.Core.Path.{_≡_};
 ghost use Prim.Native.Nat.{ℕ, _≤_, _+_, max};
 ghost use lib.ListN.{length, getD};
-ghost use Rattle.gate.specs.Gates.{gateOf};
 ghost use Rattle.circuit.specs.Run.{forwards, backwards};
-ghost use Rattle.circuit.specs.Measure.{weightFor, weightOf, cost, controlsReady, start, holdControls, hold, holdByte, readyTimes, greatest};
+ghost use Rattle.circuit.specs.Measure.{weightFor, weightOf, cost};
+ghost use Rattle.circuit.specs.Measure.{controlsReady, holdControls, hold, readyTimes, greatest};
 
 // A price or a duration for each kind of gate.
 pub struct Weights {
@@ -20,10 +20,10 @@ pub fn forwards(gates: &[u8], value: usize) -> usize
     ensures { λ r. ⌜ r ≡ forwards (now (gates .entry)) value ⌝ }
 {
     let mut v = value;
-    let mut i = 0;
-    while i < gates.len() {
-        v = gate::step(gates[i], v);
-        i += 1;
+    let mut k = 0;
+    while k < gates.len() {
+        v = gate::step(gates[k], v);
+        k += 1;
     }
     v
 }
@@ -74,7 +74,7 @@ pub fn cost(gates: &[u8], prices: Weights) -> u16
     sum
 }
 
-pub fn later(a: u16, b: u16) -> u16
+fn later(a: u16, b: u16) -> u16
     ensures { λ r. ⌜ r ≡ max a b ⌝ }
 {
     if a < b { b } else { a }

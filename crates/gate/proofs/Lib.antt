@@ -2,3 +2,4 @@ pub mod Cases
 pub mod Widen
 pub mod Undo
 pub mod Slices
+pub mod Tables

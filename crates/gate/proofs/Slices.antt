@@ -56,7 +56,9 @@ right-all = refl
 
 module _ (b : ℕ) (h : lawful 2 5 b ≡ true) where
   right : both (inside (gateOf b .kind)) (allBelow 32 (rightBits b)) ≡ true
-  right = implied (lawful 2 5 b) (both (inside (gateOf b .kind)) (allBelow 32 (rightBits b))) (below 160 rightGate right-all b (lawful-lt 2 5 b (omega arith) h)) h
+  right =
+      implied (lawful 2 5 b) (both (inside (gateOf b .kind)) (allBelow 32 (rightBits b)))
+      (below 160 rightGate right-all b (lawful-lt 2 5 b (omega arith) h)) h
 
   -- the control wires of a lawful gate are below 5
   pub wires-inside : inside (gateOf b .kind) ≡ true

@@ -6,7 +6,7 @@ use lib.Dec.{ltb, leb, eqb}
 use lib.Bits.{bitAnd, bitXor}
 use lib.Count.{ones, trailingZeros, leadingZeros}
 use Rattle.logic.specs.Rules.{both, pick}
-use Rattle.logic.specs.Lists.{filter, count}
+use Rattle.logic.specs.Lists.{keepOnly, numbersFrom}
 use Rattle.logic.specs.Bit.{bitOf}
 use Rattle.gate.specs.declared.Gate.{Gate}
 use Rattle.gate.specs.declared.Kind.{Kind}
@@ -52,4 +52,4 @@ gateOf b = record { target = targetOf b; kind = kindFor (ones (maskOf b)) (maskO
 
 -- "they stand in rising byte order": the lawful bytes of 0 to 255
 unfoldable pub gatesFor : ℕ → ℕ → List ℕ
-gatesFor k w = filter (lawful k w) (count 0 256)
+gatesFor k w = keepOnly (lawful k w) (numbersFrom 0 256)

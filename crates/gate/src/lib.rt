@@ -1,9 +1,8 @@
 // A gate byte: its fields, whether it is lawful, its struct and kind, the tables of lawful gates, and one step, on a value and on columns.
 ghost use mathlib.Core.Path.{_≡_};
 ghost use Prim.Native.Nat.{_≤_, _<_};
-ghost use lib.ListN.{length, getD, set};
+ghost use lib.ListN.{length, getD, take};
 ghost use Rattle.gate.specs.Gates.{lawful, step, lowest, highest, kindFor, gateOf, gatesFor};
-ghost use Rattle.gate.specs.Inner.{firing, columnStep};
 ghost use lib.Count.{ones};
 
 // What the controls make of a gate; the cases carry the control wires.
@@ -193,7 +192,7 @@ pub fn gate_count(w: usize) -> usize
 }
 
 // The gate at `i` of the table of `w` wires, or 0 past its end.
-pub fn gate_at(w: usize, i: usize) -> u8
+fn gate_at(w: usize, i: usize) -> u8
     requires { ⌜ (3 ≤ w) × (w ≤ 5) ⌝ }
     ensures { λ r. ⌜ r ≡ getD (gatesFor 2 w) i 0 ⌝ }
 {
@@ -204,23 +203,17 @@ pub fn gate_at(w: usize, i: usize) -> u8
     }
 }
 
-// The rows in which all controls are 1.
-fn firing(kind: Kind, columns: [u16; 5]) -> u16
-    ensures { λ r. ⌜ r ≡ firing kind columns ⌝ }
+// The table of the gates on `w` wires, with room for the longest one.
+pub fn gate_table(w: usize) -> [u8; 55]
+    requires { ⌜ (3 ≤ w) × (w ≤ 5) ⌝ }
+    ensures { λ r. ⌜ take (length (gatesFor 2 w)) r ≡ gatesFor 2 w ⌝ }
 {
-    match kind {
-        Kind::Not => 65535,
-        Kind::Cnot(a) => logic::cell(columns, a),
-        Kind::Toffoli(a, b) => logic::cell(columns, a) & logic::cell(columns, b),
+    let count = gate_count(w);
+    let mut table = [0u8; 55];
+    let mut i = 0;
+    while i < count {
+        table[i] = gate_at(w, i);
+        i += 1;
     }
-}
-
-// One gate on all rows at once.
-pub fn step_columns(gate: Gate, columns: [u16; 5]) -> [u16; 5]
-    ensures { λ r. ⌜ r ≡ columnStep gate columns ⌝ }
-{
-    let t = gate.target;
-    let kind = gate.kind;
-    let flipped = logic::cell(columns, t) ^ firing(kind, columns);
-    logic::with_cell(columns, t, flipped)
+    table
 }

@@ -5,20 +5,28 @@ use Prim.Native.Nat.{ℕ}
 use native.Mathlib.Omega.{arith}
 use lib.ListN.{length, take, drop}
 use lib.Seq.{take-at}
+use Rattle.logic.specs.Answers.{Answer, refused, answered}
 use Rattle.verify.specs.declared.Measures.{Measures}
 use Rattle.text.specs.Text.{refusedLine, foundLine}
+use Rattle.search.specs.declared.Searched.{Searched}
 use Rattle.search.specs.declared.Searched.the-variants.{Refused, Found}
-use Rattle.search.specs.Outcomes.{Outcome, refusal, found, reported, written}
+use Rattle.search.specs.Outcomes as search
+use Rattle.search.specs.Outcomes.{Reported, reported, written, searchedAnswer}
 use Rattle.line.specs.Lines.{lineFor}
 
-pub when-refused : (o : Outcome) (code : ℕ) → reported o ≡ Refused code → lineFor o ≡ refusedLine code
-when-refused (refusal k) code e = let h : k ≡ code = cc in ap refusedLine h
-when-refused (found bytes m) code e = let z : _≡_ {A = ℕ} 0 1 = cc in absurd (omega arith)
+pub when-refused : (o : Answer search.Found) (r : Searched) (code : ℕ) → searchedAnswer r ≡ reported o → r ≡ Refused code → lineFor o ≡ refusedLine code
+when-refused (refused k) (Refused x) code e h = let p : k ≡ code = cc in ap refusedLine p
+when-refused (answered f) (Refused x) code e h = let z : _≡_ {A = ℕ} 0 1 = cc in absurd (omega arith)
+when-refused o (Found s m) code e h = let z : _≡_ {A = ℕ} 0 1 = cc in absurd (omega arith)
 
-pub when-found : (o : Outcome) (size : ℕ) (m : Measures) (answer out : List ℕ) → reported o ≡ Found size m → out ≡ written o answer
+pub when-found : (o : Answer search.Found) (r : Searched) (size : ℕ) (m : Measures) (answer out : List ℕ) → searchedAnswer r ≡ reported o → r ≡ Found size m → out ≡ written o answer
     → lineFor o ≡ foundLine m (take size out)
-when-found (refusal k) size m answer out e w = let z : _≡_ {A = ℕ} 0 1 = cc in absurd (omega arith)
-when-found (found bytes n) size m answer out e w =
-    let s : length bytes ≡ size = cc in
-    let h : n ≡ m = cc in
-    rw (h, w, take-at bytes (drop (length bytes) answer) size s)
+when-found o (Refused x) size m answer out e h w = let z : _≡_ {A = ℕ} 0 1 = cc in absurd (omega arith)
+when-found (refused k) (Found s n) size m answer out e h w = let z : _≡_ {A = ℕ} 0 1 = cc in absurd (omega arith)
+when-found (answered f) (Found s n) size m answer out e h w =
+    let same : _≡_ {A = Reported} (record { size = s; measures = n }) (record { size = length (f .bytes); measures = f .measures }) = cc in
+    let long : s ≡ length (f .bytes) = ap (λ (x : Reported). x .size) same in
+    let told : n ≡ f .measures = ap (λ (x : Reported). x .measures) same in
+    let q : length (f .bytes) ≡ size = cc in
+    let p : f .measures ≡ m = cc in
+    rw (p, w, take-at (f .bytes) (drop (length (f .bytes)) answer) size q)

@@ -3,15 +3,23 @@ use search::Searched;
 ghost use mathlib.Core.Path.{_≡_};
 ghost use Prim.Native.Nat.{_≤_};
 ghost use lib.ListN.{length};
-ghost use Rattle.text.specs.Text.{placed};
-ghost use Rattle.line.specs.Lines.{lineOf};
+ghost use Rattle.text.specs.Text.{inFront};
+ghost use Rattle.line.specs.Lines.{lineOf, Telling};
+
+// How many bytes of an input are enough to tell its line: one more than the longest job has.
+pub fn room() -> usize
+    ensures { λ r. ⌜ Telling r ⌝ }
+    ensures { λ r. ⌜ r ≤ 4096 ⌝ }
+{
+    29
+}
 
 // Searches for a job's circuit and writes the line to the start of `out`; returns the line's length.
 pub fn line(job: &[u8], out: &mut [u8]) -> usize
     requires { ⌜ 64 ≤ length (now out) ⌝ }
     ensures { λ r. ⌜ r ≡ length (lineOf (now (job .entry))) ⌝ }
     ensures { λ r. ⌜ r ≤ 64 ⌝ }
-    ensures { λ _. ⌜ now (out .exit) ≡ placed (lineOf (now (job .entry))) (now (out .entry)) ⌝ }
+    ensures { λ _. ⌜ now (out .exit) ≡ inFront (lineOf (now (job .entry))) (now (out .entry)) ⌝ }
 {
     let mut answer = [0u8; 15];
     match search::search(job, &mut answer) {

@@ -1,10 +1,11 @@
 -- Exclusive or and conjunction, bit by bit.
-use mathlib.Core.Path.{_≡_, ap, _∙_}
-use Prim.Native.Nat.{ℕ, _*_, _/_, _%_, _^_, _<_}
+use mathlib.Core.Path.{_≡_, sym, ap, _∙_}
+use Prim.Native.Nat.{ℕ, zero, suc, _*_, _/_, _%_, _^_, _<_}
 use native.Mathlib.Omega.{arith}
 use native.Mathlib.Nat.{one-mul}
+use native.Mathlib.Numerals.{one-add}
 use lib.Dec.{lit<}
-use lib.Pow.{shl-exact}
+use lib.Pow.{shl-exact, pow-add, shr-shr}
 use lib.Bits.{bitAnd, bitXor, and-shr, and-mod, xor-shr, xor-mod}
 use Rattle.logic.specs.Bit.{bitOf}
 
@@ -17,3 +18,17 @@ bit-and x a b = ap (λ (n : ℕ). n % 2 ^ 1) (and-shr a b x) ∙ and-mod (a / 2 
 -- a one that is shifted within 64 bits
 pub shifted-one : (k : ℕ) → k < 64 → 1 * 2 ^ k % 2 ^ 64 ≡ 2 ^ k
 shifted-one k h = shl-exact {a = 1} 1 k 64 (lit< tt) (omega arith) ∙ one-mul (2 ^ k)
+
+pub pow-suc : (k : ℕ) → 2 ^ suc k ≡ 2 * 2 ^ k
+pow-suc k = ap (λ (n : ℕ). 2 ^ n) (sym (one-add k)) ∙ pow-add 2 1 k
+
+-- a bit above the lowest is a bit of the half
+pub bit-half : (x v : ℕ) → bitOf (suc x) v ≡ bitOf x (v / 2)
+bit-half x v = ap (λ (n : ℕ). v / 2 ^ n % 2) (sym (one-add x)) ∙ ap (λ (n : ℕ). n % 2) (sym (shr-shr v 1 x))
+
+pub zero-bits : (k v : ℕ) → v < 2 ^ k → ((x : ℕ) → x < k → bitOf x v ≡ 0) → v ≡ 0
+zero-bits zero v h z = omega arith
+zero-bits (suc k) v h z =
+    let l = rw (pow-suc k) at h in
+    let e = zero-bits k (v / 2) (omega arith) (λ x hx. sym (bit-half x v) ∙ z (suc x) (omega arith)) in
+    omega (arith, z 0 (omega arith))

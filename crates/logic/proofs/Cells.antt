@@ -1,5 +1,5 @@
 -- A list after a write, read at any place.
-use mathlib.Core.Path.{_≡_, refl, sym, _∙_}
+use mathlib.Core.Path.{_≡_, sym, _∙_}
 use mathlib.Core.List.{List, [], _∷_}
 use Prim.Native.Nat.{ℕ, _<_}
 use native.Mathlib.Decide.{ℕ-discrete}
@@ -9,6 +9,7 @@ use lib.Dec.{eqb}
 use lib.ListN.{length, getD, set, length-set}
 use lib.Seq.{getD-set-same, getD-set-other}
 use Rattle.logic.specs.Rules.{pick}
+use Rattle.logic.proofs.Members.{spelled}
 
 pub set-at : (l : List ℕ) (i a w : ℕ) → w < length l → getD (set l i a) w 0 ≡ pick (eqb w i) a (getD l w 0)
 set-at l i a w h = by-place (ℕ-discrete w i)
@@ -17,23 +18,18 @@ set-at l i a w h = by-place (ℕ-discrete w i)
     by-place (yes e) = rw (eq-eqb w i e, e) (getD-set-same l i a 0 (rw e at h))
     by-place (no n) = rw (ne-eqb w i n) (getD-set-other l i w a 0 n)
 
--- five numbers, one by one
-five : (l : List ℕ) → length l ≡ 5 → l ≡ getD l 0 0 ∷ getD l 1 0 ∷ getD l 2 0 ∷ getD l 3 0 ∷ getD l 4 0 ∷ []
-five [] h = absurd (omega arith)
-five (a ∷ []) h = absurd (omega arith)
-five (a ∷ b ∷ []) h = absurd (omega arith)
-five (a ∷ b ∷ c ∷ []) h = absurd (omega arith)
-five (a ∷ b ∷ c ∷ d ∷ []) h = absurd (omega arith)
-five (a ∷ b ∷ c ∷ d ∷ e ∷ []) h = refl
-five (a ∷ b ∷ c ∷ d ∷ e ∷ f ∷ l) h = absurd (omega arith)
-
 -- a write, as a choice at each of the five places
 pub set-five : (l : List ℕ) (i x : ℕ) → length l ≡ 5
-    → pick (eqb i 0) x (getD l 0 0) ∷ pick (eqb i 1) x (getD l 1 0) ∷ pick (eqb i 2) x (getD l 2 0) ∷ pick (eqb i 3) x (getD l 3 0) ∷ pick (eqb i 4) x (getD l 4 0) ∷ []
+    → pick (eqb i 0) x (getD l 0 0)
+    ∷ pick (eqb i 1) x (getD l 1 0)
+    ∷ pick (eqb i 2) x (getD l 2 0)
+    ∷ pick (eqb i 3) x (getD l 3 0)
+    ∷ pick (eqb i 4) x (getD l 4 0)
+    ∷ []
     ≡ set l i x
 set-five l i x h =
     let at : (w : ℕ) → w < 5 → getD (set l i x) w 0 ≡ pick (eqb i w) x (getD l w 0) = λ w k. by-place w (rw h k) (ℕ-discrete i w) in
-    sym (five (set l i x) (length-set l i x ∙ h)
+    sym (sym (spelled (set l i x) 5 (length-set l i x ∙ h))
     ∙ rw (at 0 (omega arith), at 1 (omega arith), at 2 (omega arith), at 3 (omega arith), at 4 (omega arith)))
   where
     by-place : (w : ℕ) → w < length l → Dec (i ≡ w) → getD (set l i x) w 0 ≡ pick (eqb i w) x (getD l w 0)

@@ -1,5 +1,5 @@
 -- What a joined test says of its parts, and what a list of rules that gives 0 says of each rule.
-use mathlib.Core.Path.{_≡_, refl}
+use mathlib.Core.Path.{_≡_, refl, sym}
 use mathlib.Core.Logic.{_⊎_, inl, inr}
 use mathlib.Core.Bool.{Bool, true, false, false≢true}
 use Prim.Native.Nat.{ℕ, _<_}
@@ -22,9 +22,33 @@ both-true ha hb = rw (ha, hb)
 pub both-parts : (a b : Bool) → both a b ≡ true → (a ≡ true) × (b ≡ true)
 both-parts a b h = (both-left a b h, both-right a b h)
 
+pub either-none : (a : Bool) → a ≡ either a false
+either-none true = refl
+either-none false = refl
+
 pub either-cases : (a b : Bool) → either a b ≡ true → (a ≡ true) ⊎ (b ≡ true)
 either-cases true b h = inl refl
 either-cases false b h = inr h
+
+pub either-neither : (a b : Bool) → either a b ≡ false → (a ≡ false) × (b ≡ false)
+either-neither true b h = absurd (false≢true (sym h))
+either-neither false b h = (refl, h)
+
+pub either-first : (a b : Bool) → a ≡ true → either a b ≡ true
+either-first a b e = rw e
+
+pub either-second : (a b : Bool) → b ≡ true → either a b ≡ true
+either-second true b e = refl
+either-second false b e = e
+
+pub both-second : (a b : Bool) → b ≡ false → both a b ≡ false
+both-second true b h = h
+both-second false b h = refl
+
+-- a rule that cannot hold fails
+pub not-so : (a : Bool) → (a ≡ true → ⊥) → a ≡ false
+not-so true h = absurd (h refl)
+not-so false h = refl
 
 pub implied : (a b : Bool) → implies a b ≡ true → a ≡ true → b ≡ true
 implied true b h e = h

@@ -1,5 +1,5 @@
 -- Folds of a list by what is left of it: what a loop that has passed i elements still owes, and what it owes at the end.
-use mathlib.Core.Path.{_≡_, refl}
+use mathlib.Core.Path.{_≡_, refl, sym, _∙_}
 use mathlib.Core.Bool.{Bool, true, false}
 use mathlib.Core.List.{List, [], _∷_, _++_}
 use Prim.Native.Nat.{ℕ, zero, suc, _+_, _<_, _≤_}
@@ -28,20 +28,23 @@ module _ {A : Type 0} (f : A → Bool) where
   unfolding allOf
   all-done l i h = rw (drop-of-length-le l h)
 
+  -- a loop that tests one element after the other, and still owes the test of those from i on: it stops at one that fails, goes on past
+  -- one that holds, and has tested all at the end
+  module _ (l : List A) (i : ℕ) (d : A) (owed : allOf f (drop i l) ≡ allOf f l) where
+    pub all-stop : i < length l → f (getD l i d) ≡ false → false ≡ allOf f l
+    all-stop h e = sym (all-turn false l i d h e) ∙ owed
+
+    pub all-step : i < length l → f (getD l i d) ≡ true → allOf f (drop (i + 1) l) ≡ allOf f l
+    all-step h e = sym (all-turn true l i d h e) ∙ owed
+
+    pub all-end : length l ≤ i → true ≡ allOf f l
+    all-end h = sym (all-done l i h) ∙ owed
+
   pub all-at : (l : List A) (i : ℕ) (d : A) → allOf f l ≡ true → i < length l → f (getD l i d) ≡ true
   unfolding allOf
   all-at [] i d t h = absurd (not-suc-le-zero h)
   all-at (x ∷ xs) zero d t h = both-left (f x) (allOf f xs) t
   all-at (x ∷ xs) (suc i) d t h = all-at xs i d (both-right (f x) (allOf f xs) t) (le-of-suc-le-suc h)
-
-  pub all-append : (l m : List A) → allOf f (l ++ m) ≡ both (allOf f l) (allOf f m)
-  unfolding allOf
-  all-append [] m = refl
-  all-append (x ∷ xs) m = rw (all-append xs m) (both-assoc (f x) (allOf f xs) (allOf f m))
-    where
-      both-assoc : (a b c : Bool) → both a (both b c) ≡ both (both a b) c
-      both-assoc true b c = refl
-      both-assoc false b c = refl
 
 module _ {A : Type 0} (f : A → ℕ) where
   pub total-more : (l : List A) (i : ℕ) (d : A) → i < length l → total f (drop i l) ≡ f (getD l i d) + total f (drop (i + 1) l)

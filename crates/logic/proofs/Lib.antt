@@ -1,5 +1,9 @@
 pub mod Chain
 pub mod Below
+pub mod Counts
+pub mod Members
 pub mod Fold
 pub mod Bits
+pub mod Xor
 pub mod Cells
+pub mod Answers

@@ -1,3 +1,4 @@
 pub mod Rules
 pub mod Lists
 pub mod Bit
+pub mod Answers

@@ -1,6 +1,6 @@
 -- Lists from the head: a test of every element, a sum, and a state carried along or back.
 use mathlib.Core.Bool.{Bool, true}
-use mathlib.Core.List.{List, [], _∷_}
+use mathlib.Core.List.{List, [], _∷_, List·Memᴰ}
 use Prim.Native.Nat.{ℕ, zero, suc, _+_}
 use Rattle.logic.specs.Rules.{both, pick}
 
@@ -10,14 +10,14 @@ allOf f [] = true
 allOf f (x ∷ xs) = both (f x) (allOf f xs)
 
 -- the elements at which f holds, in their order
-abbrev pub filter : {A : Type 0} → (A → Bool) → List A → List A
-filter f [] = []
-filter f (x ∷ xs) = pick (f x) (x ∷ filter f xs) (filter f xs)
+abbrev pub keepOnly : {A : Type 0} → (A → Bool) → List A → List A
+keepOnly f [] = []
+keepOnly f (x ∷ xs) = pick (f x) (x ∷ keepOnly f xs) (keepOnly f xs)
 
 -- the n numbers from i on, rising
-abbrev pub count : ℕ → ℕ → List ℕ
-count i zero = []
-count i (suc n) = i ∷ count (suc i) n
+abbrev pub numbersFrom : ℕ → ℕ → List ℕ
+numbersFrom i zero = []
+numbersFrom i (suc n) = i ∷ numbersFrom (suc i) n
 
 -- the sum of f over the list
 unfoldable pub total : {A : Type 0} → (A → ℕ) → List A → ℕ
@@ -33,3 +33,7 @@ along f (x ∷ xs) s = along f xs (f x s)
 unfoldable pub back : {A S : Type 0} → (A → S → S) → List A → S → S
 back f [] s = s
 back f (x ∷ xs) s = f x (back f xs s)
+
+-- every element of e is one of l
+abbrev pub Among : List ℕ → List ℕ → Type 0
+Among l e = (x : ℕ) → List·Memᴰ x e → List·Memᴰ x l

@@ -1,7 +1,7 @@
 -- Rules that a computer can test: a rule is a Bool, and a list of rules gives the code of the first one broken.
 use mathlib.Core.Bool.{Bool, true, false}
 use lib.Dec.{eqb}
-use Prim.Native.Nat.{ℕ, zero, suc}
+use Prim.Native.Nat.{ℕ, zero, suc, _+_}
 
 abbrev pub both : Bool → Bool → Bool
 both true b = b
@@ -31,3 +31,17 @@ andThen code rest = pick (eqb code 0) rest code
 abbrev pub allBelow : ℕ → (ℕ → Bool) → Bool
 allBelow zero f = true
 allBelow (suc n) f = both (f n) (allBelow n f)
+
+-- f holds at some number below n
+abbrev pub someBelow : ℕ → (ℕ → Bool) → Bool
+someBelow zero f = false
+someBelow (suc n) f = either (f n) (someBelow n f)
+
+-- 1 for true, 0 for false
+abbrev pub bit : Bool → ℕ
+bit b = pick b 1 0
+
+-- how often f holds below n
+abbrev pub countBelow : ℕ → (ℕ → Bool) → ℕ
+countBelow zero f = 0
+countBelow (suc n) f = bit (f n) + countBelow n f

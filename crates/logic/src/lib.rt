@@ -60,13 +60,14 @@ pub fn cell(cells: [u16; 5], i: usize) -> u16
 }
 
 // One of two numbers.
-fn picked(first: bool, x: u16, y: u16) -> u16
+pub fn picked(first: bool, x: u16, y: u16) -> u16
     ensures { λ r. ⌜ r ≡ pick first x y ⌝ }
 {
     if first { x } else { y }
 }
 
-// The five numbers with `x` at `i`; the same five past the end. No write at a place known only when it runs: a copy right after one waits for it.
+// The five numbers with `x` at `i`; the same five past the end. No write at a place known only when it runs: a copy right after one
+// waits for it.
 pub fn with_cell(cells: [u16; 5], i: usize, x: u16) -> [u16; 5]
     ensures { λ r. ⌜ r ≡ set cells i x ⌝ }
 {

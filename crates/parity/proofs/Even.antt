@@ -9,14 +9,15 @@ use native.Mathlib.Nat.{add-zero, zero-add}
 use borrow.Author.Tests.{ne-eqb}
 use lib.Dec.{lit≤}
 use lib.Count.{ones}
-use Rattle.logic.specs.Lists.{allOf, total, along, count}
-use Rattle.logic.proofs.Chain.{both-left, both-right, both-true}
+use Rattle.logic.specs.Lists.{allOf, total, along, numbersFrom}
+use Rattle.logic.proofs.Chain.{both-left, both-right}
 use Rattle.gate.specs.Gates.{maskOf, lawful, step}
-use Rattle.gate.proofs.Widen.{parts, widen}
+use Rattle.gate.proofs.Widen.{parts}
+use Rattle.gate.proofs.Tables.{all-widen}
 use Rattle.circuit.specs.Run.{forwards}
-use Rattle.record.specs.Layouts.{layoutOk}
+use Rattle.table.specs.Layouts.{layoutOk}
 use Rattle.parity.specs.Parity.{inversions}
-use Rattle.parity.specs.Inner.{oddGate, oddGates, placed}
+use Rattle.parity.specs.Inner.{oddGate, oddGates, laidOut}
 use Rattle.parity.proofs.Turning.{rows16, Turning, still, after}
 use Rattle.parity.proofs.Gates.{gate, layout}
 
@@ -30,17 +31,18 @@ list (b ∷ gs) h =
     (list gs (both-right (lawful 3 4 b) (allOf (lawful 3 4) gs) h))
 
 -- the parity of what a list does to the rows, and of what it does as a layout reads it
-pub run-parity : (gs : List ℕ) → allOf (lawful 3 4) gs ≡ true → inversions (map (λ x. forwards gs x) (count 0 16)) % 2 ≡ oddGates gs % 2
+pub run-parity : (gs : List ℕ) → allOf (lawful 3 4) gs ≡ true
+    → inversions (map (λ x. forwards gs x) (numbersFrom 0 16)) % 2 ≡ oddGates gs % 2
 unfolding rows16
 run-parity gs h = list gs h .parity
 
-pub placed-parity : (gs : List ℕ) (p : ℕ) → allOf (lawful 3 4) gs ≡ true → p < 256 → layoutOk 4 p ≡ true
-    → inversions (map (λ x. placed p (forwards gs x)) (count 0 16)) % 2 ≡ oddGates gs % 2
+pub layout-parity : (gs : List ℕ) (p : ℕ) → allOf (lawful 3 4) gs ≡ true → p < 256 → layoutOk 4 p ≡ true
+    → inversions (map (λ x. laidOut p (forwards gs x)) (numbersFrom 0 16)) % 2 ≡ oddGates gs % 2
 unfolding rows16
-placed-parity gs p h hp k =
-    after (forwards gs) (placed p) (oddGates gs) 0 (list gs h) (layout p hp k) .parity ∙ ap (λ (n : ℕ). n % 2) (add-zero (oddGates gs))
+layout-parity gs p h hp k =
+    after (forwards gs) (laidOut p) (oddGates gs) 0 (list gs h) (layout p hp k) .parity ∙ ap (λ (n : ℕ). n % 2) (add-zero (oddGates gs))
 
--- gates with at most two controls: none is odd, and each is lawful where three controls are allowed
+-- gates with at most two controls: none is odd
 pub no-odd : (gs : List ℕ) → allOf (lawful 2 4) gs ≡ true → oddGates gs ≡ 0
 unfolding allOf total
 no-odd [] h = refl
@@ -48,14 +50,7 @@ no-odd (b ∷ gs) h =
     let few = parts 2 4 b (both-left (lawful 2 4 b) (allOf (lawful 2 4) gs) h) .few in
     rw (ne-eqb (ones (maskOf b)) 3 (λ e. omega arith), zero-add) (no-odd gs (both-right (lawful 2 4 b) (allOf (lawful 2 4) gs) h))
 
-pub three-lawful : (gs : List ℕ) → allOf (lawful 2 4) gs ≡ true → allOf (lawful 3 4) gs ≡ true
-unfolding allOf
-three-lawful [] h = refl
-three-lawful (b ∷ gs) h =
-    both-true (widen 2 4 3 4 b (lit≤ tt) (lit≤ tt) (both-left (lawful 2 4 b) (allOf (lawful 2 4) gs) h))
-    (three-lawful gs (both-right (lawful 2 4 b) (allOf (lawful 2 4) gs) h))
-
 -- so their tables are even
-pub even : (gs : List ℕ) (p : ℕ) → allOf (lawful 2 4) gs ≡ true → p < 256 → layoutOk 4 p ≡ true
-    → inversions (map (λ x. placed p (forwards gs x)) (count 0 16)) % 2 ≡ 0
-even gs p h hp k = placed-parity gs p (three-lawful gs h) hp k ∙ ap (λ (n : ℕ). n % 2) (no-odd gs h)
+pub even-table : (gs : List ℕ) (p : ℕ) → allOf (lawful 2 4) gs ≡ true → p < 256 → layoutOk 4 p ≡ true
+    → inversions (map (λ x. laidOut p (forwards gs x)) (numbersFrom 0 16)) % 2 ≡ 0
+even-table gs p h hp k = layout-parity gs p (all-widen 2 4 3 4 (lit≤ tt) (lit≤ tt) gs h) hp k ∙ ap (λ (n : ℕ). n % 2) (no-odd gs h)

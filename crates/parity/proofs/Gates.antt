@@ -12,9 +12,9 @@ use Rattle.logic.proofs.Chain.{both-left, both-right, implied}
 use Rattle.logic.proofs.Below.{below}
 use Rattle.gate.specs.Gates.{lawful, step}
 use Rattle.gate.proofs.Widen.{lawful-lt}
-use Rattle.record.specs.Layouts.{layoutOk}
+use Rattle.table.specs.Layouts.{layoutOk}
 use Rattle.parity.specs.Parity.{smaller, inversions}
-use Rattle.parity.specs.Inner.{oddGate, placed}
+use Rattle.parity.specs.Inner.{oddGate, laidOut}
 use Rattle.parity.proofs.Pairs.{pairs, sorted, pairs-sorted}
 use Rattle.parity.proofs.Turning.{rows16, Turning}
 
@@ -34,7 +34,8 @@ same-true (x ∷ l) (y ∷ m) h =
     let r = same-true l m (both-right (eqb x y) (same l m) h) in
     cc
 
--- the test of a function: its values are rows, different ones for different rows, sorted they are the rows, and its table has the parity of n
+-- the test of a function: its values are rows, different ones for different rows, sorted they are the rows, and its table has the
+-- parity of n
 abbrev lowAt : (ℕ → ℕ) → ℕ → Bool
 lowAt f x = ltb (f x) 16
 
@@ -86,12 +87,12 @@ gate b h =
     (implied (lawful 3 4 b) (turning (step b) (oddGate b)) (below 160 gateTurns gates-turn b (lawful-lt 3 4 b (lit≤ tt) h)) h)
 
 abbrev layoutTurns : ℕ → Bool
-layoutTurns p = implies (layoutOk 4 p) (turning (placed p) 0)
+layoutTurns p = implies (layoutOk 4 p) (turning (laidOut p) 0)
 
 layouts-turn : allBelow 256 layoutTurns ≡ true
-unfolding layoutOk placed rows16 inversions smaller total
+unfolding layoutOk laidOut rows16 inversions smaller total
 layouts-turn = refl
 
 -- every layout is even
-pub layout : (p : ℕ) → p < 256 → layoutOk 4 p ≡ true → Turning (placed p) 0
-layout p hp h = tested (placed p) 0 (implied (layoutOk 4 p) (turning (placed p) 0) (below 256 layoutTurns layouts-turn p hp) h)
+pub layout : (p : ℕ) → p < 256 → layoutOk 4 p ≡ true → Turning (laidOut p) 0
+layout p hp h = tested (laidOut p) 0 (implied (layoutOk 4 p) (turning (laidOut p) 0) (below 256 layoutTurns layouts-turn p hp) h)

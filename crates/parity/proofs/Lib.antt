@@ -1,4 +1,6 @@
 pub mod Values
+pub mod Odd
+pub mod Permutation
 pub mod Pairs
 pub mod Turning
 pub mod Gates

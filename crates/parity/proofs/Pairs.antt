@@ -55,7 +55,8 @@ module _ (P : ℕ → Bool) where
   total-mod h k [] q e = refl
   total-mod h k (x ∷ xs) q e = omega (arith, e x (both-left (P x) (allOf P xs) q), total-mod h k xs (both-right (P x) (allOf P xs) q) e)
 
-  pub pairs-mod : (D E : Relation) (l : List ℕ) → allOf P l ≡ true → ((a b : ℕ) → P a ≡ true → P b ≡ true → D a b % 2 ≡ E a b % 2) → pairs D l % 2 ≡ pairs E l % 2
+  pub pairs-mod : (D E : Relation) (l : List ℕ) → allOf P l ≡ true → ((a b : ℕ) → P a ≡ true → P b ≡ true → D a b % 2 ≡ E a b % 2)
+      → pairs D l % 2 ≡ pairs E l % 2
   unfolding pairs allOf
   pairs-mod D E [] q e = refl
   pairs-mod D E (x ∷ xs) q e =

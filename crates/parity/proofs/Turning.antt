@@ -8,14 +8,14 @@ use native.Mathlib.Omega.{arith}
 use native.Mathlib.Nat.{min-comm, max-comm, min-eq-left, min-eq-right, max-eq-left, max-eq-right, le-of-lt, add-zero}
 use borrow.Author.Tests.{lt-ltb, le-ltb, ltb-true, ltb-false}
 use lib.Dec.{ltb}
-use Rattle.logic.specs.Lists.{allOf, total, count}
+use Rattle.logic.specs.Lists.{allOf, total, numbersFrom}
 use Rattle.logic.proofs.Chain.{both-left, both-right, both-true}
 use Rattle.parity.specs.Parity.{lower, smaller, inversions}
 use Rattle.parity.proofs.Pairs.{Relation, Symmetric, pairs, as-pairs, pairs-map, pairs-add, pairs-mod}
 
 -- the rows of four wires
 unfoldable pub rows16 : List ℕ
-rows16 = count 0 16
+rows16 = numbersFrom 0 16
 
 -- f rearranges the rows, and its table has the parity of n
 pub record Turning (f : ℕ → ℕ) (n : ℕ) : Type 0 where
@@ -114,7 +114,12 @@ after f g m n tf tg =
       low = λ x h. tg .low (f x) (tf .low x h);
       once = λ x y hx hy e. tf .once x y hx hy (tg .once (f x) (f y) (tf .low x hx) (tf .low y hy) e);
       alike = λ D s.
-          rw (← map-map g f rows16, pairs-map D g (map f rows16), tf .alike (λ a b. D (g a) (g b)) (λ a b. s (g a) (g b)), ← pairs-map D g rows16)
+          rw (
+            ← map-map g f rows16,
+            pairs-map D g (map f rows16),
+            tf .alike (λ a b. D (g a) (g b)) (λ a b. s (g a) (g b)),
+            ← pairs-map D g rows16,
+          )
           (tg .alike D s);
       parity = rw (← map-map g f rows16) (mod-move i m n (sym e₁ ∙ e₂ ∙ ap (λ (k : ℕ). k % 2) e₃ ∙ sym e₄ ∙ e₅));
     }

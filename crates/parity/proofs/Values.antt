@@ -8,7 +8,7 @@ use lib.ListN.{length, drop, getD, drop-of-length-le}
 use lib.Seq.{drop-cons}
 use Rattle.logic.specs.Rules.{both}
 use Rattle.logic.specs.Lists.{allOf, total}
-use Rattle.record.specs.Jobs.{valueOf}
+use Rattle.table.specs.Rows.{valueOf}
 use Rattle.parity.specs.Parity.{differs, distinct, lower, smaller, inversions}
 
 -- the values of the rows from i on
@@ -22,7 +22,8 @@ module _ (l : List ℕ) (i : ℕ) where
   done : length l ≤ i → from l i ≡ []
   done h = rw (drop-of-length-le l h)
 
-  pub all-turn : (f : ℕ → Bool) (t : Bool) → i < length l → f (valueOf (getD l i 0)) ≡ t → allOf f (from l i) ≡ both t (allOf f (from l (i + 1)))
+  pub all-turn : (f : ℕ → Bool) (t : Bool) → i < length l → f (valueOf (getD l i 0)) ≡ t
+      → allOf f (from l i) ≡ both t (allOf f (from l (i + 1)))
   unfolding allOf
   all-turn f t h e = rw (more h, e)
 

@@ -7,7 +7,7 @@ use Rattle.logic.specs.Rules.{pick}
 use Rattle.logic.specs.Lists.{total}
 use Rattle.logic.specs.Bit.{bitOf}
 use Rattle.gate.specs.Gates.{maskOf}
-use Rattle.record.specs.Layouts.{wireOf}
+use Rattle.table.specs.Layouts.{wireOf}
 
 -- 1 for a gate with three controls
 abbrev pub oddGate : ℕ → ℕ
@@ -18,5 +18,5 @@ abbrev pub oddGates : List ℕ → ℕ
 oddGates gs = total oddGate gs
 
 -- the value whose bit j is v's bit on the wire of output j
-unfoldable pub placed : ℕ → ℕ → ℕ
-placed p v = bitOf (wireOf p 0) v + 2 * bitOf (wireOf p 1) v + 4 * bitOf (wireOf p 2) v + 8 * bitOf (wireOf p 3) v
+unfoldable pub laidOut : ℕ → ℕ → ℕ
+laidOut p v = bitOf (wireOf p 0) v + 2 * bitOf (wireOf p 1) v + 4 * bitOf (wireOf p 2) v + 8 * bitOf (wireOf p 3) v

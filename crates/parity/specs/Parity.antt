@@ -1,11 +1,13 @@
 -- The parity of a job's table, as document 01 has it under 'Packed records'.
-use mathlib.Core.Bool.{Bool, true, not}
+use mathlib.Core.Bool.{Bool, true, false, not}
 use mathlib.Core.List.{List, [], _∷_, map}
 use Prim.Native.Nat.{ℕ, _+_, _-_, _%_, _^_}
 use lib.Dec.{ltb, eqb}
 use Rattle.logic.specs.Rules.{both, pick}
 use Rattle.logic.specs.Lists.{allOf, total}
-use Rattle.record.specs.Jobs.{dataWires, rows, careOf, valueOf, jobCode}
+use Rattle.logic.specs.Answers.{Answer, refused, answered, answerOf}
+use Rattle.table.specs.Rows.{careOf, valueOf}
+use Rattle.record.specs.Jobs.{dataWires, rows, jobCode}
 use Rattle.parity.specs.declared.TableParity.{TableParity}
 use Rattle.parity.specs.declared.TableParity.the-variants.{Refused, Even, Odd, Neither}
 
@@ -29,7 +31,7 @@ distinct [] = true
 distinct (x ∷ xs) = both (allOf (differs x) xs) (distinct xs)
 
 -- "every mask is full (all n bits) and the values are a permutation": a well-formed job has 2^n values below 2^n, so they are a
--- permutation exactly where no value stands twice
+-- permutation, every value below 2^n among them, exactly where no value stands twice (`permutation` in proofs/Permutation.antt)
 unfoldable pub permutes : List ℕ → Bool
 permutes job = both (full job) (distinct (values job))
 
@@ -46,24 +48,31 @@ unfoldable pub inversions : List ℕ → ℕ
 inversions [] = 0
 inversions (x ∷ xs) = smaller x xs + inversions xs
 
--- "A permutation is odd when an odd number of pairs of rows have the larger value in the earlier row, and even otherwise."
-unfoldable pub oddTable : List ℕ → Bool
-oddTable job = both (permutes job) (eqb (inversions (values job) % 2) 1)
+pub data Parity : Type 0 where
+  even : Parity
+  odd : Parity
+  neither : Parity
 
-abbrev pub oddOrEven : ℕ → TableParity
-oddOrEven odd = pick (eqb odd 1) Odd Even
+abbrev pub isOdd : Parity → Bool
+isOdd even = false
+isOdd odd = true
+isOdd neither = false
+
+-- "A permutation is odd when an odd number of pairs of rows have the larger value in the earlier row, and even otherwise."
+abbrev pub parityBy : ℕ → Parity
+parityBy n = pick (eqb (n % 2) 1) odd even
 
 -- "even or odd where [the table permutes]; else neither"
-unfoldable pub tableParity : List ℕ → TableParity
-tableParity job = pick (permutes job) (oddOrEven (inversions (values job) % 2)) Neither
+unfoldable pub tableParity : List ℕ → Parity
+tableParity job = pick (permutes job) (parityBy (inversions (values job))) neither
 
 -- "Parity makes the job's checks only."
-unfoldable pub parityOf : List ℕ → TableParity
-parityOf job = pick (eqb (jobCode job) 0) (tableParity job) (Refused (jobCode job))
+unfoldable pub parityOf : List ℕ → Answer Parity
+parityOf job = answerOf (jobCode job) (tableParity job)
 
--- the refusal number of each case
-abbrev pub codeOf : TableParity → ℕ
-codeOf (Refused code) = code
-codeOf Even = 0
-codeOf Odd = 0
-codeOf Neither = 0
+-- document 01's number of each refusal, and the parity of each other case
+abbrev pub parityAnswer : TableParity → Answer Parity
+parityAnswer (Refused code) = refused code
+parityAnswer Even = answered even
+parityAnswer Odd = answered odd
+parityAnswer Neither = answered neither

@@ -3,9 +3,11 @@ ghost use mathlib.Core.Path.{_≡_};
 ghost use mathlib.Core.List.{map};
 ghost use Prim.Native.Nat.{_≤_, _<_, _%_};
 ghost use lib.ListN.{length};
+ghost use Rattle.logic.specs.Answers.{answered};
 ghost use Rattle.logic.specs.Lists.{allOf};
-ghost use Rattle.record.specs.Jobs.{valueOf, jobCode};
-ghost use Rattle.parity.specs.Parity.{fullRow, full, differs, distinct, permutes, lower, smaller, inversions, oddTable, oddOrEven, tableParity, parityOf, codeOf};
+ghost use Rattle.table.specs.Rows.{valueOf};
+ghost use Rattle.parity.specs.Parity.{fullRow, differs, distinct, permutes, lower, smaller, inversions};
+ghost use Rattle.parity.specs.Parity.{isOdd, tableParity, parityOf, parityAnswer};
 
 // What is found of a table: the number of the job's first rule broken, or the parity.
 pub enum TableParity {
@@ -110,35 +112,27 @@ fn permutes(job: &[u8]) -> bool
 
 // Whether the table is an odd permutation.
 pub fn odd_table(job: &[u8]) -> bool
-    ensures { λ r. ⌜ r ≡ oddTable (now (job .entry)) ⌝ }
+    ensures { λ r. ⌜ r ≡ isOdd (tableParity (now (job .entry))) ⌝ }
 {
     logic::both(permutes(job), inversions(record::table(job)) == 1)
 }
 
-// The case of an odd or even number of pairs, given modulo 2.
-fn odd_or_even(odd: usize) -> TableParity
-    ensures { λ r. ⌜ r ≡ oddOrEven odd ⌝ }
+fn table_parity(job: &[u8]) -> TableParity
+    ensures { λ r. ⌜ parityAnswer r ≡ answered (tableParity (now (job .entry))) ⌝ }
 {
-    if odd == 1 {
+    if !permutes(job) {
+        return TableParity::Neither;
+    }
+    if inversions(record::table(job)) == 1 {
         TableParity::Odd
     } else {
         TableParity::Even
     }
 }
 
-fn table_parity(job: &[u8]) -> TableParity
-    ensures { λ r. ⌜ r ≡ tableParity (now (job .entry)) ⌝ }
-{
-    if !permutes(job) {
-        return TableParity::Neither;
-    }
-    odd_or_even(inversions(record::table(job)))
-}
-
 // The parity of a job's table, after the job's checks.
 pub fn parity(job: &[u8]) -> TableParity
-    ensures { λ r. ⌜ r ≡ parityOf (now (job .entry)) ⌝ }
-    ensures { λ r. ⌜ codeOf r ≡ jobCode (now (job .entry)) ⌝ }
+    ensures { λ r. ⌜ parityAnswer r ≡ parityOf (now (job .entry)) ⌝ }
 {
     let code = record::job_code(job);
     if code != 0 {

@@ -1,14 +1,13 @@
--- The answer of a check: document 01's number of the first rule broken, or that there is none.
+-- The answer of a check, with document 01's number of each refusal.
 use Prim.Native.Nat.{ℕ}
-use lib.Dec.{eqb}
-use Rattle.logic.specs.Rules.{pick}
+use Rattle.logic.specs.Answers.{Answer, refused, answered, answerOf}
 use Rattle.record.specs.declared.Checked.{Checked}
 use Rattle.record.specs.declared.Checked.the-variants.{Refused, Sound}
 
-abbrev pub checkedOf : ℕ → Checked
-checkedOf code = pick (eqb code 0) Sound (Refused code)
+abbrev pub checkedAnswer : Checked → Answer (Unit {0})
+checkedAnswer (Refused code) = refused code
+checkedAnswer Sound = answered tt
 
--- the number of each case
-abbrev pub codeOf : Checked → ℕ
-codeOf (Refused code) = code
-codeOf Sound = 0
+-- a check answers nothing but the number of the first rule broken
+abbrev pub checkOf : ℕ → Answer (Unit {0})
+checkOf code = answerOf code tt

@@ -8,7 +8,7 @@ use Rattle.logic.specs.Rules.{both, either, rule}
 use Rattle.logic.specs.Lists.{allOf}
 use Rattle.gate.specs.Gates.{lawful}
 use Rattle.record.specs.Jobs.{dataWires, ancillas, wires}
-use Rattle.record.specs.Layouts.{layoutOk}
+use Rattle.table.specs.Layouts.{layoutOk}
 
 unfoldable pub layoutOf : List ℕ → ℕ
 layoutOf c = getD c 1 0
@@ -20,16 +20,16 @@ abbrev pub gates : List ℕ → List ℕ
 gates c = drop 3 c
 
 -- "Is it 3 to 15 bytes long? If not, 7."
-unfoldable pub spanOk : List ℕ → Bool
-spanOk c = both (leb 3 (length c)) (leb (length c) 15)
+unfoldable pub circuitLengthOk : List ℕ → Bool
+circuitLengthOk c = both (leb 3 (length c)) (leb (length c) 15)
 
 -- "Is byte 0 in order (n 3 or 4, m 0 or 1, zeros)? If not, 8."
 unfoldable pub shapeOk : List ℕ → Bool
 shapeOk c = both (either (eqb (dataWires c) 3) (eqb (dataWires c) 4)) (both (leb (ancillas c) 1) (eqb (getD c 0 0 % 8) 0))
 
 -- "Is the placing in order? If not, 9."
-abbrev pub placedOk : List ℕ → Bool
-placedOk c = layoutOk (dataWires c) (layoutOf c)
+abbrev pub layoutInOrder : List ℕ → Bool
+layoutInOrder c = layoutOk (dataWires c) (layoutOf c)
 
 -- "Is the count byte the length less 3? If not, 10."
 abbrev pub countOk : List ℕ → Bool
@@ -46,9 +46,9 @@ gatesOk c = allOf (lawful 2 (wires c)) (gates c)
 -- the code of the first rule broken, or 0
 unfoldable pub circuitCode : List ℕ → ℕ
 circuitCode c =
-    rule (spanOk c) 7
+    rule (circuitLengthOk c) 7
     (rule (shapeOk c) 8
-    (rule (placedOk c) 9
+    (rule (layoutInOrder c) 9
     (rule (countOk c) 10
     (rule (countSmall c) 11
     (rule (gatesOk c) 21 0)))))

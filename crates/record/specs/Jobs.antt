@@ -1,14 +1,14 @@
 -- A job record: its fields, and the checks in document 01's order with its numbers.
 use mathlib.Core.Bool.{Bool}
 use mathlib.Core.List.{List}
-use Prim.Native.Nat.{ℕ, _+_, _*_, _/_, _%_, _^_}
-use lib.Bits.{bitAnd}
-use lib.Dec.{ltb, leb, eqb}
+use Prim.Native.Nat.{ℕ, _+_, _*_, _/_, _%_}
+use lib.Dec.{leb, eqb}
 use lib.ListN.{length, getD, drop}
 use Rattle.logic.specs.Rules.{both, either, rule}
 use Rattle.logic.specs.Lists.{allOf}
 use Rattle.circuit.specs.declared.Weights.{Weights}
 use Rattle.circuit.specs.Measure.{weightOf}
+use Rattle.table.specs.Rows.{rowOk}
 
 -- "Byte 0: n in 3 bits, m in 2": also a circuit's
 unfoldable pub dataWires : List ℕ → ℕ
@@ -52,23 +52,13 @@ priceOf job b = weightOf (prices job) b
 abbrev pub durationOf : List ℕ → ℕ → ℕ
 durationOf job b = weightOf (durations job) b
 
--- "one byte a row: wanted-bits mask in the high four bits, value in the low four"; the care mask is the wanted-bits mask
+-- "Then one byte a row"
 abbrev pub rows : List ℕ → List ℕ
 rows job = drop 12 job
 
-abbrev pub careOf : ℕ → ℕ
-careOf row = row / 16
-
-abbrev pub valueOf : ℕ → ℕ
-valueOf row = row % 16
-
--- "A value bit outside the mask is 0. With n = 3, bit 3 of both is 0."
-unfoldable pub rowOk : ℕ → ℕ → Bool
-rowOk n row = both (eqb (bitAnd (careOf row) (valueOf row)) (valueOf row)) (both (ltb (careOf row) (2 ^ n)) (ltb (valueOf row) (2 ^ n)))
-
 -- "Is it 20 or 28 bytes long? If not, 1."
-unfoldable pub lengthOk : List ℕ → Bool
-lengthOk job = either (eqb (length job) 20) (eqb (length job) 28)
+unfoldable pub jobLengthOk : List ℕ → Bool
+jobLengthOk job = either (eqb (length job) 20) (eqb (length job) 28)
 
 -- "Is n = 3 with 20, n = 4 with 28? If not, 2."
 unfoldable pub sizeOk : List ℕ → Bool
@@ -93,7 +83,7 @@ rowsOk job = allOf (rowOk (dataWires job)) (rows job)
 -- the code of the first rule broken, or 0: a job with 0 is document 01's well-formed
 unfoldable pub jobCode : List ℕ → ℕ
 jobCode job =
-    rule (lengthOk job) 1
+    rule (jobLengthOk job) 1
     (rule (sizeOk job) 2
     (rule (headOk job) 3
     (rule (limitOk job) 4

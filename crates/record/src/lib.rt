@@ -1,15 +1,15 @@
-// Job and circuit records: their fields behind functions, the final layouts, and the checks in order.
+// Job and circuit records: their fields behind functions, and the checks in order.
 use circuit::Weights;
 ghost use mathlib.Core.Path.{_≡_};
-ghost use mathlib.Core.Logic.{_⊎_};
 ghost use Prim.Native.Nat.{_≤_, _<_};
-ghost use lib.ListN.{length, getD};
+ghost use lib.ListN.{length};
 ghost use Rattle.logic.specs.Lists.{allOf};
 ghost use Rattle.gate.specs.Gates.{lawful};
-ghost use Rattle.record.specs.Jobs.{dataWires, ancillas, wires, freeLayout, gateLimit, word, costLimit, depthLimit, weightsAt, prices, durations, rows, rowOk, lengthOk, sizeOk, headOk, limitOk, durationsOk, rowsOk, jobCode};
-ghost use Rattle.record.specs.Circuits.{layoutOf, countOf, gates, spanOk, shapeOk, gatesOk, circuitCode};
-ghost use Rattle.record.specs.Layouts.{wireOf, layoutOk, layoutsFor};
-ghost use Rattle.record.specs.Answers.{checkedOf, codeOf};
+ghost use Rattle.table.specs.Layouts.{Width};
+ghost use Rattle.record.specs.Jobs.{dataWires, ancillas, wires, freeLayout, gateLimit, word, costLimit, depthLimit, weightsAt};
+ghost use Rattle.record.specs.Jobs.{prices, durations, rows, jobLengthOk, sizeOk, headOk, limitOk, durationsOk, rowsOk, jobCode};
+ghost use Rattle.record.specs.Circuits.{layoutOf, countOf, gates, circuitLengthOk, shapeOk, gatesOk, circuitCode};
+ghost use Rattle.record.specs.Answers.{checkedAnswer, checkOf};
 ghost use Rattle.record.specs.Inner.{jobRest, circuitRest};
 
 // What a check finds: the number of the first rule broken, or none.
@@ -17,36 +17,6 @@ pub enum Checked {
     Refused(u8),
     Sound,
 }
-
-// The layouts of three and of four outputs, in rising order.
-const LAYOUTS3: [u8; 6] = [0x18, 0x24, 0x48, 0x60, 0x84, 0x90];
-
-const LAYOUTS4: [u8; 24] = [
-    0x1B,
-    0x1E,
-    0x27,
-    0x2D,
-    0x36,
-    0x39,
-    0x4B,
-    0x4E,
-    0x63,
-    0x6C,
-    0x72,
-    0x78,
-    0x87,
-    0x8D,
-    0x93,
-    0x9C,
-    0xB1,
-    0xB4,
-    0xC6,
-    0xC9,
-    0xD2,
-    0xD8,
-    0xE1,
-    0xE4,
-];
 
 // The number of data wires of a record, n.
 pub fn data_wires(bytes: &[u8]) -> usize
@@ -146,53 +116,8 @@ pub fn gate_list(c: &[u8]) -> &[u8]
     if 3 <= c.len() { &c[3..] } else { &c[..0] }
 }
 
-// Whether each output is on a data wire of its own: as many wires are named as there are, so each is named once.
-pub fn layout_ok(n: usize, p: u8) -> bool
-    requires { ⌜ (n ≡ 3) ⊎ (n ≡ 4) ⌝ }
-    ensures { λ r. ⌜ r ≡ layoutOk n p ⌝ }
-{
-    let named = (1u8 << (p / 64)) | (1u8 << (p / 16 % 4)) | (1u8 << (p / 4 % 4));
-    if n == 3 {
-        logic::both(named == 7, p % 4 == 0)
-    } else {
-        named | (1u8 << (p % 4)) == 15
-    }
-}
-
-// How many layouts a job allows.
-pub fn layout_count(n: usize, free: usize) -> usize
-    requires { ⌜ (n ≡ 3) ⊎ (n ≡ 4) ⌝ }
-    ensures { λ r. ⌜ r ≡ length (layoutsFor n free) ⌝ }
-{
-    if free == 1 {
-        if n == 3 { 6 } else { 24 }
-    } else {
-        1
-    }
-}
-
-// The layout at `i` of those that a job allows, or 0 past the last.
-pub fn layout_at(n: usize, free: usize, i: usize) -> u8
-    requires { ⌜ (n ≡ 3) ⊎ (n ≡ 4) ⌝ }
-    ensures { λ r. ⌜ r ≡ getD (layoutsFor n free) i 0 ⌝ }
-{
-    if free == 1 {
-        if n == 3 {
-            logic::at(&LAYOUTS3, i)
-        } else {
-            logic::at(&LAYOUTS4, i)
-        }
-    } else {
-        if n == 3 {
-            logic::at(&[0x18], i)
-        } else {
-            logic::at(&[0x1B], i)
-        }
-    }
-}
-
-fn length_ok(job: &[u8]) -> bool
-    ensures { λ r. ⌜ r ≡ lengthOk (now (job .entry)) ⌝ }
+fn job_length_ok(job: &[u8]) -> bool
+    ensures { λ r. ⌜ r ≡ jobLengthOk (now (job .entry)) ⌝ }
 {
     logic::either(job.len() == 20, job.len() == 28)
 }
@@ -226,41 +151,14 @@ fn durations_ok(job: &[u8]) -> bool
     logic::both(1 <= d.not, logic::both(1 <= d.cnot, 1 <= d.toffoli))
 }
 
-fn row_ok(n: usize, row: u8) -> bool
-    requires { ⌜ n < 64 ⌝ }
-    ensures { λ r. ⌜ r ≡ rowOk n row ⌝ }
-{
-    let care = logic::wide(row) / 16;
-    let value = logic::wide(row) % 16;
-    logic::both(
-        care & value == value,
-        logic::both(care < (1 << n), value < (1 << n)),
-    )
-}
-
-fn all_rows_ok(n: usize, rows: &[u8]) -> bool
-    requires { ⌜ n < 64 ⌝ }
-    ensures { λ r. ⌜ r ≡ allOf (rowOk n) (now (rows .entry)) ⌝ }
-{
-    let mut i = 0;
-    while i < rows.len() {
-        if !row_ok(n, rows[i]) {
-            return false;
-        }
-        i += 1;
-    }
-    true
-}
-
 fn rows_ok(job: &[u8]) -> bool
     ensures { λ r. ⌜ r ≡ rowsOk (now (job .entry)) ⌝ }
 {
-    all_rows_ok(data_wires(job), table(job))
+    table::rows_ok(data_wires(job), table(job))
 }
 
 fn answer(code: u8) -> Checked
-    ensures { λ r. ⌜ r ≡ checkedOf code ⌝ }
-    ensures { λ r. ⌜ codeOf r ≡ code ⌝ }
+    ensures { λ r. ⌜ checkedAnswer r ≡ checkOf code ⌝ }
 {
     if code == 0 {
         Checked::Sound
@@ -274,10 +172,12 @@ fn job_rest(job: &[u8]) -> u8
     ensures { λ r. ⌜ r ≡ jobRest (now (job .entry)) ⌝ }
 {
     let rest = logic::rule(durations_ok(job), 5, logic::rule(rows_ok(job), 6, 0));
+    let head = head_ok(job);
+    let limit = limit_ok(job);
     logic::rule(
         size_ok(job),
         2,
-        logic::rule(head_ok(job), 3, logic::rule(limit_ok(job), 4, rest)),
+        logic::rule(head, 3, logic::rule(limit, 4, rest)),
     )
 }
 
@@ -285,7 +185,7 @@ fn job_rest(job: &[u8]) -> u8
 pub fn job_code(job: &[u8]) -> u8
     ensures { λ r. ⌜ r ≡ jobCode (now (job .entry)) ⌝ }
 {
-    if !length_ok(job) {
+    if !job_length_ok(job) {
         return 1;
     }
     job_rest(job)
@@ -293,14 +193,13 @@ pub fn job_code(job: &[u8]) -> u8
 
 // The checks of a job, in order.
 pub fn check_job(job: &[u8]) -> Checked
-    ensures { λ r. ⌜ r ≡ checkedOf (jobCode (now (job .entry))) ⌝ }
-    ensures { λ r. ⌜ codeOf r ≡ jobCode (now (job .entry)) ⌝ }
+    ensures { λ r. ⌜ checkedAnswer r ≡ checkOf (jobCode (now (job .entry))) ⌝ }
 {
     answer(job_code(job))
 }
 
-fn span_ok(c: &[u8]) -> bool
-    ensures { λ r. ⌜ r ≡ spanOk (now (c .entry)) ⌝ }
+fn circuit_length_ok(c: &[u8]) -> bool
+    ensures { λ r. ⌜ r ≡ circuitLengthOk (now (c .entry)) ⌝ }
 {
     logic::both(3 <= c.len(), c.len() <= 15)
 }
@@ -348,13 +247,13 @@ fn count_of(c: &[u8]) -> usize
 // The rules of a circuit after its length and its byte 0.
 fn circuit_rest(c: &[u8]) -> u8
     requires { ⌜ 3 ≤ length (now c) ⌝ }
-    requires { ⌜ (dataWires (now c) ≡ 3) ⊎ (dataWires (now c) ≡ 4) ⌝ }
+    requires { ⌜ Width (dataWires (now c)) ⌝ }
     ensures { λ r. ⌜ r ≡ circuitRest (now (c .entry)) ⌝ }
 {
     let count = count_of(c);
     let rest = logic::rule(count <= 12, 11, logic::rule(gates_ok(c), 21, 0));
     logic::rule(
-        layout_ok(data_wires(c), layout_of(c)),
+        table::layout_ok(data_wires(c), layout_of(c)),
         9,
         logic::rule(count == c.len() - 3, 10, rest),
     )
@@ -364,7 +263,7 @@ fn circuit_rest(c: &[u8]) -> u8
 pub fn circuit_code(c: &[u8]) -> u8
     ensures { λ r. ⌜ r ≡ circuitCode (now (c .entry)) ⌝ }
 {
-    if !span_ok(c) {
+    if !circuit_length_ok(c) {
         return 7;
     }
     if !shape_ok(c) {
@@ -375,8 +274,7 @@ pub fn circuit_code(c: &[u8]) -> u8
 
 // The checks of a circuit, in order.
 pub fn check_circuit(c: &[u8]) -> Checked
-    ensures { λ r. ⌜ r ≡ checkedOf (circuitCode (now (c .entry))) ⌝ }
-    ensures { λ r. ⌜ codeOf r ≡ circuitCode (now (c .entry)) ⌝ }
+    ensures { λ r. ⌜ checkedAnswer r ≡ checkOf (circuitCode (now (c .entry))) ⌝ }
 {
     answer(circuit_code(c))
 }

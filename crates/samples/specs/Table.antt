@@ -1,19 +1,25 @@
--- The samples marked P in document 01, as rows of one table. Gate bytes stand in decimal, with document 01's hexadecimal beside them.
+-- The samples marked P in document 01, and a smallest record for each refusal number, as rows of one table.
+-- Gate bytes of document 01's samples stand in decimal, with its hexadecimal beside them.
 use Prim.Native.Nat.{ℕ, suc, _+_}
 use mathlib.Core.Bool.{Bool, true, false, not}
 use mathlib.Core.List.{List, [], _∷_, map}
 use lib.Count.{ones}
 use lib.Dec.{eqb}
-use Rattle.logic.specs.Rules.{both, pick}
-use Rattle.gate.specs.declared.Gate.{Gate}
+use Rattle.logic.specs.Rules.{both, either, pick}
+use Rattle.logic.specs.Answers.{Answer, refused, answered}
 use Rattle.gate.specs.declared.Kind.{Kind}
 use Rattle.gate.specs.declared.Kind.the-variants.{Not, Cnot, Toffoli}
 use Rattle.gate.specs.Gates.{maskOf, lawful, step, gateOf}
 use Rattle.circuit.specs.declared.Weights.{Weights}
-use Rattle.parity.specs.declared.TableParity.{TableParity}
-use Rattle.parity.specs.declared.TableParity.the-variants.{Refused, Even, Odd, Neither}
-use Rattle.parity.specs.Parity.{parityOf}
 use Rattle.circuit.specs.Measure.{weightOf, cost, depth}
+use Rattle.record.specs.Jobs.{jobCode}
+use Rattle.record.specs.Circuits.{circuitCode}
+use Rattle.record.specs.Answers.{checkOf}
+use Rattle.verify.specs.declared.Measures.{Measures}
+use Rattle.verify.specs.Calls.{forwardsOf, backwardsOf, measureOf, verifyOf}
+use Rattle.parity.specs.Parity.{Parity, even, odd, neither, parityOf}
+use Rattle.choice.specs.Choices.{lexLess}
+use Rattle.search.specs.Outcomes.{Found, searchOf}
 
 pub data Sample : Type 0 where
   toffoli : (byte target low high : ℕ) → Sample
@@ -23,8 +29,20 @@ pub data Sample : Type 0 where
   controls : (byte count : ℕ) → Sample
   costs : (gates : List ℕ) (sum : ℕ) → Sample
   deep : (gates : List ℕ) (time : ℕ) → Sample
-  isEven : (values : List ℕ) → Sample
-  isOdd : (values : List ℕ) → Sample
+  hasParity : (job : List ℕ) (parity : Parity) → Sample
+  parityRefused : (job : List ℕ) (code : ℕ) → Sample
+  jobSound : (job : List ℕ) → Sample
+  jobRefused : (job : List ℕ) (code : ℕ) → Sample
+  circuitSound : (circuit : List ℕ) → Sample
+  circuitRefused : (circuit : List ℕ) (code : ℕ) → Sample
+  runs : (circuit : List ℕ) (value forth back : ℕ) → Sample
+  runRefused : (circuit : List ℕ) (value code : ℕ) → Sample
+  measures : (job circuit : List ℕ) (gates cost depth : ℕ) → Sample
+  measureRefused : (job circuit : List ℕ) (code : ℕ) → Sample
+  passes : (job circuit : List ℕ) (gates cost depth : ℕ) → Sample
+  verifyRefused : (job circuit : List ℕ) (code : ℕ) → Sample
+  finds : (job circuit : List ℕ) → Sample
+  searchRefused : (job : List ℕ) (room code : ℕ) → Sample
 
 abbrev toffoliOn : Kind → ℕ → ℕ → Bool
 toffoliOn Not a b = false
@@ -39,20 +57,61 @@ abbrev pub sampleDurations : Weights
 sampleDurations = record { not = 1; cnot = 1; toffoli = 7 }
 
 -- a job of four data wires that wants every bit of these values
-abbrev fullJob : List ℕ → List ℕ
-fullJob values = 128 ∷ 12 ∷ 255 ∷ 255 ∷ 255 ∷ 255 ∷ 1 ∷ 1 ∷ 5 ∷ 1 ∷ 1 ∷ 7 ∷ map (λ v. 240 + v) values
+abbrev full4 : List ℕ → List ℕ
+full4 values = 0x80 ∷ 12 ∷ 255 ∷ 255 ∷ 255 ∷ 255 ∷ 1 ∷ 1 ∷ 5 ∷ 1 ∷ 1 ∷ 7 ∷ map (λ v. 0xF0 + v) values
 
-abbrev even : TableParity → Bool
-even (Refused code) = false
-even Even = true
-even Odd = false
-even Neither = false
+-- a job of 20 bytes: its byte 0, its three limits, the duration of a NOT, and its rows
+abbrev short : (head gates cost depth duration : ℕ) → List ℕ → List ℕ
+short head gates cost depth duration rows = head ∷ gates ∷ 0 ∷ cost ∷ 0 ∷ depth ∷ 1 ∷ 1 ∷ 5 ∷ duration ∷ 1 ∷ 7 ∷ rows
 
-abbrev odd : TableParity → Bool
-odd (Refused code) = false
-odd Even = false
-odd Odd = true
-odd Neither = false
+-- eight rows that begin with these two and want nothing else
+abbrev two : ℕ → ℕ → List ℕ
+two x y = x ∷ y ∷ 0 ∷ 0 ∷ 0 ∷ 0 ∷ 0 ∷ 0 ∷ []
+
+-- three data wires, no bit wanted, within these limits
+abbrev anything : (gates cost depth : ℕ) → List ℕ
+anything gates cost depth = short 0x60 gates cost depth 1 (two 0 0)
+
+-- eight rows that want every bit of these values
+abbrev full3 : List ℕ → List ℕ
+full3 values = short 0x60 0 0 0 1 (map (λ v. 0x70 + v) values)
+
+-- a circuit of three data wires with plain layout
+abbrev empty : List ℕ
+empty = 0x60 ∷ 0x18 ∷ 0 ∷ []
+
+abbrev oneNot : List ℕ
+oneNot = 0x60 ∷ 0x18 ∷ 1 ∷ 0x00 ∷ []
+
+-- an answer, compared
+abbrev refusedBy : {A : Type 0} → ℕ → Answer A → Bool
+refusedBy code (refused n) = eqb n code
+refusedBy code (answered a) = false
+
+abbrev isAnswered : {A : Type 0} → Answer A → Bool
+isAnswered (refused n) = false
+isAnswered (answered a) = true
+
+abbrev givesValue : ℕ → Answer ℕ → Bool
+givesValue v (refused n) = false
+givesValue v (answered w) = eqb w v
+
+abbrev givesMeasures : ℕ → ℕ → ℕ → Answer Measures → Bool
+givesMeasures g c d (refused n) = false
+givesMeasures g c d (answered m) = both (eqb (m .gates) g) (both (eqb (m .cost) c) (eqb (m .depth) d))
+
+abbrev givesRecord : List ℕ → Answer Found → Bool
+givesRecord bytes (refused n) = false
+givesRecord bytes (answered f) = not (either (lexLess bytes (f .bytes)) (lexLess (f .bytes) bytes))
+
+abbrev parityNumber : Parity → ℕ
+parityNumber even = 0
+parityNumber odd = 1
+parityNumber neither = 2
+
+abbrev givesParity : Parity → Answer Parity → Bool
+givesParity p (refused n) = false
+givesParity p (answered q) = eqb (parityNumber q) (parityNumber p)
 
 unfoldable pub holds : Sample → Bool
 holds (toffoli b t low high) = both (eqb (gateOf b .target) t) (toffoliOn (gateOf b .kind) low high)
@@ -62,8 +121,20 @@ holds (isUnlawful w b) = not (lawful 2 w b)
 holds (controls b n) = eqb (ones (maskOf b)) n
 holds (costs gs c) = eqb (cost (weightOf samplePrices) gs) c
 holds (deep gs d) = eqb (depth (weightOf sampleDurations) gs) d
-holds (isEven vs) = even (parityOf (fullJob vs))
-holds (isOdd vs) = odd (parityOf (fullJob vs))
+holds (hasParity job p) = givesParity p (parityOf job)
+holds (parityRefused job n) = refusedBy n (parityOf job)
+holds (jobSound job) = isAnswered (checkOf (jobCode job))
+holds (jobRefused job n) = refusedBy n (checkOf (jobCode job))
+holds (circuitSound c) = isAnswered (checkOf (circuitCode c))
+holds (circuitRefused c n) = refusedBy n (checkOf (circuitCode c))
+holds (runs c v f b) = both (givesValue f (forwardsOf c v)) (givesValue b (backwardsOf c v))
+holds (runRefused c v n) = both (refusedBy n (forwardsOf c v)) (refusedBy n (backwardsOf c v))
+holds (measures job c g k d) = givesMeasures g k d (measureOf job c)
+holds (measureRefused job c n) = refusedBy n (measureOf job c)
+holds (passes job c g k d) = givesMeasures g k d (verifyOf job c)
+holds (verifyRefused job c n) = refusedBy n (verifyOf job c)
+holds (finds job c) = givesRecord c (searchOf job 15)
+holds (searchRefused job room n) = refusedBy n (searchOf job room)
 
 unfoldable pub samples : List Sample
 samples =
@@ -84,8 +155,39 @@ samples =
     ∷ deep (65 ∷ 33 ∷ []) 2  -- 41 21
     ∷ costs (33 ∷ 67 ∷ []) 6  -- 21 43
     ∷ deep (33 ∷ 67 ∷ []) 8
-    ∷ isEven (1 ∷ 10 ∷ 4 ∷ 12 ∷ 6 ∷ 15 ∷ 3 ∷ 9 ∷ 2 ∷ 13 ∷ 11 ∷ 7 ∷ 5 ∷ 0 ∷ 8 ∷ 14 ∷ [])  -- GIFT
-    ∷ isOdd (0 ∷ 6 ∷ 2 ∷ 4 ∷ 9 ∷ 3 ∷ 13 ∷ 5 ∷ 1 ∷ 14 ∷ 12 ∷ 7 ∷ 8 ∷ 10 ∷ 11 ∷ 15 ∷ [])  -- the inverse in the field of 16 elements
+    ∷ hasParity (full4 (1 ∷ 10 ∷ 4 ∷ 12 ∷ 6 ∷ 15 ∷ 3 ∷ 9 ∷ 2 ∷ 13 ∷ 11 ∷ 7 ∷ 5 ∷ 0 ∷ 8 ∷ 14 ∷ [])) even  -- GIFT
+    ∷ hasParity (full4 (0 ∷ 6 ∷ 2 ∷ 4 ∷ 9 ∷ 3 ∷ 13 ∷ 5 ∷ 1 ∷ 14 ∷ 12 ∷ 7 ∷ 8 ∷ 10 ∷ 11 ∷ 15 ∷ [])) odd  -- 062493D51EC78ABF
+    ∷ hasParity (full3 (0 ∷ 1 ∷ 2 ∷ 3 ∷ 4 ∷ 5 ∷ 6 ∷ 6 ∷ [])) neither  -- 6 stands twice
+    ∷ hasParity (anything 0 0 0) neither  -- no bit is wanted
+    ∷ jobSound (anything 0 0 0)
+    ∷ jobRefused [] 1
+    ∷ parityRefused [] 1
+    ∷ jobRefused (short 0x80 0 0 0 1 (two 0 0)) 2  -- n = 4 with 20 bytes
+    ∷ jobRefused (short 0x61 0 0 0 1 (two 0 0)) 3  -- the last bit of byte 0
+    ∷ jobRefused (anything 13 0 0) 4
+    ∷ jobRefused (short 0x60 0 0 0 0 (two 0 0)) 5  -- a NOT that takes no time
+    ∷ jobRefused (short 0x60 0 0 0 1 (two 0 1)) 6  -- a value bit outside the mask
+    ∷ circuitSound empty
+    ∷ circuitRefused [] 7
+    ∷ circuitRefused (0x61 ∷ 0x18 ∷ 0 ∷ []) 8  -- the last bit of byte 0
+    ∷ circuitRefused (0x60 ∷ 0x08 ∷ 0 ∷ []) 9  -- outputs 0 and 1 on wire 0
+    ∷ circuitRefused (0x60 ∷ 0x18 ∷ 1 ∷ []) 10
+    ∷ circuitRefused (0x60 ∷ 0x18 ∷ 1 ∷ 34 ∷ []) 21  -- 22 again
+    ∷ runs (0x60 ∷ 0x18 ∷ 2 ∷ 0 ∷ 33 ∷ []) 0 3 1  -- 00 21, there and back
+    ∷ runRefused empty 8 20
+    ∷ measures (anything 0 0 0) oneNot 1 1 1
+    ∷ measureRefused (anything 0 0 0) (0x80 ∷ 0x1B ∷ 0 ∷ []) 12  -- four data wires for three
+    ∷ verifyRefused (anything 0 0 0) (0x68 ∷ 0x18 ∷ 0 ∷ []) 12  -- an ancilla for none
+    ∷ verifyRefused (anything 0 0 0) (0x60 ∷ 0x48 ∷ 0 ∷ []) 15  -- a layout that is not the plain one
+    ∷ verifyRefused (short 0x60 0 0 0 1 (two 0x11 0)) empty 16  -- row 0 wants bit 0 to be 1
+    ∷ passes (short 0x60 0 0 0 1 (two 0x10 0x11)) empty 0 0 0
+    ∷ verifyRefused (anything 0 1 1) oneNot 17
+    ∷ verifyRefused (anything 1 0 1) oneNot 18
+    ∷ verifyRefused (anything 1 1 0) oneNot 19
+    ∷ passes (anything 1 1 1) oneNot 1 1 1  -- each limit is itself allowed
+    ∷ searchRefused (anything 0 0 0) 14 13  -- an answer buffer of 14 bytes
+    ∷ searchRefused (short 0x60 0 0 0 1 (two 0x11 0)) 15 14  -- row 0 wants bit 0 to be 1, and no gate is allowed
+    ∷ finds (short 0x60 0 0 0 1 (two 0x10 0x11)) empty
     ∷ []
 
 -- the number of the first row that does not hold, counted from i, or 0

@@ -1,7 +1,4 @@
 pub mod Facts
-pub mod Nodes
-pub mod Cuts
-pub mod Reaches
-pub mod Thresholds
-pub mod Walk
+pub mod Verified
 pub mod Answer
+pub mod Posed

@@ -1,89 +1,78 @@
--- What the search answers. The definition lists every choice and takes the first good one; nobody runs it.
-use mathlib.Core.Bool.{Bool}
-use mathlib.Core.List.{List, [], _∷_, _++_, map}
+-- What the search answers: a job as a problem, the problem's first good choice as a record, and what the call makes of it.
+use mathlib.Core.List.{List, _∷_, _++_}
 use mathlib.Core.Option.{Option, none, some}
 use Prim.Native.Nat.{ℕ, _+_, _*_}
 use lib.Dec.{leb, eqb}
 use lib.ListN.{length, drop}
-use Rattle.logic.specs.Rules.{both, pick, rule, andThen}
+use Rattle.logic.specs.Rules.{pick, rule, andThen}
+use Rattle.logic.specs.Answers.{Answer, refused, answered}
 use Rattle.gate.specs.Gates.{gatesFor}
-use Rattle.circuit.specs.Measure.{cost, depth}
-use Rattle.record.specs.Jobs.{dataWires, ancillas, wires, freeLayout, gateLimit, costLimit, depthLimit, priceOf, durationOf, jobCode}
-use Rattle.record.specs.Layouts.{layoutsFor}
+use Rattle.table.specs.Layouts.{layoutsFor}
+use Rattle.table.specs.Rows.{realizes}
+use Rattle.record.specs.Jobs.{dataWires, ancillas, wires, freeLayout, gateLimit, costLimit, depthLimit, priceOf, durationOf, rows, jobCode}
 use Rattle.verify.specs.declared.Measures.{Measures}
-use Rattle.verify.specs.Realize.{realizes}
-use Rattle.choice.specs.Choices.{Choice, improve, under}
+use Rattle.choice.specs.Choices.{Choice}
+use Rattle.problem.specs.Problems.{Problem, firstGood}
 use Rattle.search.specs.declared.Searched.{Searched}
-use Rattle.search.specs.declared.Searched.the-variants.{Refused, Found}
 
--- a list of gates with a layout, and the list's measures
-unfoldable pub choiceOf : List ℕ → List ℕ → ℕ → Choice
-choiceOf job l p = record { cost = cost (priceOf job) l; gates = length l; depth = depth (durationOf job) l; layout = p; bytes = l }
+-- "the meeting circuit with the job's n and m and an allowed placing, within all limits (each limit is itself allowed)"
+unfoldable pub problemOf : List ℕ → Problem
+problemOf job = record {
+  gates = gatesFor 2 (wires job);
+  layouts = layoutsFor (dataWires job) (freeLayout job);
+  price = priceOf job;
+  duration = durationOf job;
+  realized = realizes (rows job);
+  mostGates = gateLimit job;
+  mostCost = costLimit job;
+  mostDepth = depthLimit job;
+}
 
--- a list with each allowed layout
-unfoldable pub here : List ℕ → List ℕ → List Choice
-here job l = map (choiceOf job l) (layoutsFor (dataWires job) (freeLayout job))
+-- a circuit record of the job: byte 0 with its n and m, the layout, the gate count, the gates
+unfoldable pub recordOf : List ℕ → ℕ → List ℕ → List ℕ
+recordOf job p l = (32 * dataWires job + 8 * ancillas job) ∷ p ∷ length l ∷ l
 
--- the gates that are lawful for the job
-abbrev pub gatesOf : List ℕ → List ℕ
-gatesOf job = gatesFor 2 (wires job)
+-- what a search finds
+pub record Found : Type 0 where
+  pub bytes : List ℕ
+  pub measures : Measures
 
--- all lists of the job's gates up to its limit, each with all allowed layouts
-abbrev pub choices : List ℕ → List Choice
-choices job = under (here job) (gatesOf job) [] (gateLimit job)
-
--- "meets the table" within the limits on cost and depth; the gate limit is that of `choices`
-unfoldable pub good : List ℕ → Choice → Bool
-good job c = both (realizes job (c .layout) (c .bytes)) (both (leb (c .cost) (costLimit job)) (leb (c .depth) (depthLimit job)))
-
--- "first by cost, then gates, depth, placing byte, and gate bytes from left to right"
-unfoldable pub firstGood : List ℕ → Option Choice
-firstGood job = improve (good job) none (choices job)
-
--- a refusal's number, or the record found and its measures
-pub data Outcome : Type 0 where
-  refusal : ℕ → Outcome
-  found : List ℕ → Measures → Outcome
-
--- byte 0 with the job's n and m, the layout, the gate count, the gates
-unfoldable pub recordOf : List ℕ → Choice → List ℕ
-recordOf job c = (32 * dataWires job + 8 * ancillas job) ∷ c .layout ∷ length (c .bytes) ∷ c .bytes
-
-abbrev pub measuresIn : Choice → Measures
-measuresIn c = record { gates = c .gates; cost = c .cost; depth = c .depth }
+abbrev pub foundOf : List ℕ → Choice → Found
+foundOf job c = record { bytes = recordOf job (c .layout) (c .bytes); measures = record { gates = c .gates; cost = c .cost; depth = c .depth } }
 
 -- "Does a circuit within the limits meet the table? If not, 14."
-abbrev pub outcomeOf : List ℕ → Option Choice → Outcome
-outcomeOf job none = refusal 14
-outcomeOf job (some c) = found (recordOf job c) (measuresIn c)
+abbrev pub outcomeOf : List ℕ → Option Choice → Answer Found
+outcomeOf job none = refused 14
+outcomeOf job (some c) = answered (foundOf job c)
 
 -- "after the job's checks: is the answer buffer at least 15 bytes? If not, 13."
 unfoldable pub searchCode : List ℕ → ℕ → ℕ
 searchCode job room = andThen (jobCode job) (rule (leb 15 room) 13 0)
 
-unfoldable pub searchOf : List ℕ → ℕ → Outcome
-searchOf job room = pick (eqb (searchCode job room) 0) (outcomeOf job (firstGood job)) (refusal (searchCode job room))
+unfoldable pub searchOf : List ℕ → ℕ → Answer Found
+searchOf job room = pick (eqb (searchCode job room) 0) (outcomeOf job (firstGood (problemOf job))) (refused (searchCode job room))
 
--- "A refusal returns its number alone"; a found circuit's "length (3 bytes and one a gate) and its three measures are returned"
-abbrev pub reported : Outcome → Searched
-reported (refusal code) = Refused code
-reported (found bytes m) = Found (length bytes) m
+-- "its length (3 bytes and one a gate) and its three measures are returned"
+pub record Reported : Type 0 where
+  pub size : ℕ
+  pub measures : Measures
 
--- "A found circuit is written from byte 0; later bytes are untouched"; a refusal leaves the buffer as it was
-abbrev pub written : Outcome → List ℕ → List ℕ
-written (refusal code) answer = answer
-written (found bytes m) answer = bytes ++ drop (length bytes) answer
+-- "A refusal returns its number alone"
+abbrev pub reported : Answer Found → Answer Reported
+reported (refused code) = refused code
+reported (answered f) = answered (record { size = length (f .bytes); measures = f .measures })
 
--- document 01's number of each outcome, and of each case of the answer
-abbrev pub outcomeCode : Outcome → ℕ
-outcomeCode (refusal code) = code
-outcomeCode (found bytes m) = 0
+-- "and the answer buffer is untouched. A found circuit is written from byte 0; later bytes are untouched"
+abbrev pub written : Answer Found → List ℕ → List ℕ
+written (refused code) answer = answer
+written (answered f) answer = f .bytes ++ drop (length (f .bytes)) answer
 
-abbrev pub searchedCode : Searched → ℕ
-searchedCode (Refused code) = code
-searchedCode (Found size m) = 0
+-- document 01's number of a refusal, and the values of the other case
+abbrev pub searchedAnswer : Searched → Answer Reported
+searchedAnswer (Searched.Refused code) = refused code
+searchedAnswer (Searched.Found size m) = answered (record { size = size; measures = m })
 
--- the length that an answer names: at most that of a record with twelve gates
+-- the length that an answer names: a caller cuts its buffer there
 abbrev pub sizeIn : Searched → ℕ
-sizeIn (Refused code) = 0
-sizeIn (Found size m) = size
+sizeIn (Searched.Refused code) = 0
+sizeIn (Searched.Found size m) = size

@@ -13,7 +13,7 @@ use Rattle.logic.specs.Lists.{along}
 use Rattle.logic.specs.Bit.{bitOf}
 use Rattle.logic.proofs.Bits.{bit-xor}
 use Rattle.span.specs.Span.{clear, reduced}
-use Rattle.span.proofs.Xor.{Linear, xor-assoc, xor-swap, xor-both}
+use Rattle.logic.proofs.Xor.{Linear, xor-assoc, xor-swap, xor-both}
 
 -- the place of the highest one
 highest : (k b : ℕ) → b ≤ k → 0 < b → (h : ℕ) × (b / 2 ^ h ≡ 1)

@@ -10,7 +10,7 @@ use lib.ListN.{length, getD}
 use Rattle.logic.specs.Lists.{along, total}
 use Rattle.logic.proofs.Fold.{along-append}
 use Rattle.span.specs.Span.{clear, reduced, rests, one}
-use Rattle.span.proofs.Xor.{Linear, linear-zero, and-xor}
+use Rattle.logic.proofs.Xor.{Linear, linear-zero, and-xor}
 use Rattle.span.proofs.Clearing.{clear-linear, clear-none, clear-self, reduced-linear}
 use Rattle.span.proofs.Spanned.{Span, one-fewer}
 

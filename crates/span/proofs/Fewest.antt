@@ -2,32 +2,24 @@
 use mathlib.Core.Path.{_≡_, refl, sym, ap, _∙_, subst}
 use mathlib.Core.Logic.{⊎-elim}
 use mathlib.Core.Bool.{true}
-use mathlib.Core.List.{List, [], _∷_, _++_, List·Memᴰ}
+use mathlib.Core.List.{List, [], _∷_}
 use Prim.Native.Nat.{ℕ, zero, suc, _+_, _≤_, _<_}
 use native.Mathlib.Nat.{not-suc-le-zero, le-of-suc-le-suc}
 use native.Mathlib.Decide.{decLt}
 use native.Mathlib.Omega.{arith}
-use borrow.Author.Tests.{eqb-true, lt-ltb, le-ltb, not-true, not-false}
+use borrow.Author.Tests.{eqb-true, lt-ltb, le-ltb}
 use lib.Bits.{bitAnd, bitXor, and-comm}
-use lib.Dec.{eqb}
 use lib.ListN.{length, getD}
-use Rattle.logic.specs.Lists.{allOf, along}
-use Rattle.logic.proofs.Chain.{both-true}
+use Rattle.logic.specs.Lists.{along}
 use Rattle.logic.proofs.Below.{below}
-use Rattle.logic.proofs.Fold.{all-append, along-append}
-use Rattle.gate.specs.Gates.{lawful, gateOf}
-use Rattle.gate.specs.Inner.{columnStep}
-use Rattle.circuit.proofs.Reversal.{columnsAfter}
-use Rattle.record.specs.Jobs.{dataWires, wires, freeLayout, jobCode}
-use Rattle.record.specs.Layouts.{wireOf, layoutsFor}
-use Rattle.record.proofs.Kept.{sound-job}
-use Rattle.verify.specs.Realize.{realizes}
-use Rattle.slices.specs.declared.Wanted.{Wanted}
-use Rattle.slices.specs.Wanted.{columnsOf, wantedOf, startColumns, misses, missed, fits, met}
-use Rattle.slices.proofs.Realized.{met-realizes}
+use Rattle.logic.proofs.Xor.{linear-zero, and-assoc, and-xor, xor-none}
+use Rattle.circuit.specs.Inner.{columnsAfter}
+use Rattle.table.specs.Layouts.{wireOf}
+use Rattle.columns.specs.declared.Wanted.{Wanted}
+use Rattle.columns.specs.Wanted.{misses, fits, met}
+use Rattle.columns.specs.Finish.{Finish}
 use Rattle.budget.specs.Heavy.{heavies}
 use Rattle.span.specs.Span.{reduced, rests, fresh, first, fullRows, generators, needed}
-use Rattle.span.proofs.Xor.{linear-zero, and-assoc, and-xor, xor-none}
 use Rattle.span.proofs.Spanned.{Span, span-zero}
 use Rattle.span.proofs.Run.{run}
 use Rattle.span.proofs.Elimination.{rest, rest-linear, rests-own, rests-few}
@@ -72,9 +64,7 @@ module _ (t : Wanted) (n p : ℕ) (hc : n ≤ length (t .care)) (hn : n ≤ 4) (
   fits-rows j l =
       let c = getD cs (wireOf p j) 0 in
       let v = getD (t .value) j 0 in
-      let m = misses t cs (wireOf p j) j in
-      let g = below 4 (fits t cs p) h j (omega arith) in
-      let z : m ≡ 0 = eqb-true m 0 (not-false (eqb m 0) (not-true (missed t cs (wireOf p j) j) g)) in
+      let z : misses t c j ≡ 0 = eqb-true (misses t c j) 0 (below 4 (fits t cs p) h j (omega arith)) in
       let k = first-in n 65535 0 (t .care) j (omega arith) in
       let r = none-common (bitXor c v) (first 0 n 65535 (t .care)) 65535 j (omega (arith, length-first n 65535 0 (t .care))) (ap (bitAnd (bitXor c v)) k ∙ z) in
       xor-none (bitAnd (fullRows t n) c) (bitAnd (fullRows t n) v) (sym (and-xor (fullRows t n) c v) ∙ and-comm (fullRows t n) (bitXor c v) ∙ r)
@@ -104,17 +94,9 @@ module _ (t : Wanted) (n p : ℕ) (hc : n ≤ length (t .care)) (hn : n ≤ 4) (
       let s = run (rest rows base) (rest-linear rows base) (own 0) e [] cs (λ w. own (suc w)) in
       omega (arith, s .1, rests-few rows (first 0 n 0 (t .value)) base (s .0) (values-spanned (s .0) (s .2)))
 
-wanted-four : (job : List ℕ) → length (wantedOf job .care) ≡ 4
-unfolding wantedOf columnsOf
-wanted-four job = refl
-
-pub needed-few : (job : List ℕ) → jobCode job ≡ 0 → (l e : List ℕ) → allOf (lawful 2 (wires job)) l ≡ true → allOf (lawful 2 (wires job)) e ≡ true
-    → (p : ℕ) → List·Memᴰ p (layoutsFor (dataWires job) (freeLayout job)) → realizes job p (l ++ e) ≡ true
-    → needed (wantedOf job) (columnsAfter l startColumns) (dataWires job) ≤ heavies e
-needed-few job hj l e hl he p m r =
-    let t = wantedOf job in
-    let n4 : dataWires job ≤ 4 = ⊎-elim (λ w. omega arith) (λ w. omega arith) (sound-job job hj .width) in
-    let hle = all-append (lawful 2 (wires job)) l e ∙ both-true hl he in
-    let h = sym (along-append (λ b. columnStep (gateOf b)) l e startColumns) in
-    let k = ap (λ cs. met t cs p) h ∙ met-realizes job hj (l ++ e) hle p ∙ r in
-    needed-heavies t (dataWires job) p (omega (arith, wanted-four job)) n4 (columnsAfter l startColumns) e k
+-- each way to finish has as many gates of two or more controls as outputs are independent
+pub needed-few : (k : ℕ) (t : Wanted) (n free : ℕ) (cs e : List ℕ) (p : ℕ) → Finish k t n free cs e p → needed t cs n ≤ heavies e
+needed-few k t n free cs e p f =
+    let n4 : n ≤ 4 = ⊎-elim (λ w. omega arith) (λ w. omega arith) (f .width) in
+    let c = f .four in
+    needed-heavies t n p (omega arith) n4 cs e (f .meets)

@@ -1,4 +1,3 @@
-pub mod Xor
 pub mod Clearing
 pub mod Spanned
 pub mod Run

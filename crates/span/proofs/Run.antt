@@ -14,9 +14,9 @@ use Rattle.logic.specs.Rules.{pick}
 use Rattle.logic.specs.Lists.{along, total}
 use Rattle.gate.specs.Gates.{maskOf, lowest, kindFor, gateOf}
 use Rattle.gate.specs.Inner.{firing, columnStep}
-use Rattle.circuit.proofs.Reversal.{columnsAfter}
+use Rattle.circuit.specs.Inner.{columnsAfter}
 use Rattle.budget.specs.Heavy.{heavy, heavies}
-use Rattle.span.proofs.Xor.{Linear}
+use Rattle.logic.proofs.Xor.{Linear}
 use Rattle.span.proofs.Spanned.{Span, span-zero, span-xor}
 
 -- what holds of a list's numbers and of the one written holds of the numbers after the write

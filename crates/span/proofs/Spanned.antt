@@ -5,7 +5,7 @@ use mathlib.Core.List.{List, [], _∷_, map}
 use Prim.Native.Nat.{ℕ, suc}
 use lib.Bits.{bitXor, xor-zero-r}
 use lib.ListN.{length}
-use Rattle.span.proofs.Xor.{Linear, linear-zero, xor-assoc, xor-swap, xor-both}
+use Rattle.logic.proofs.Xor.{Linear, linear-zero, xor-assoc, xor-swap, xor-both}
 
 -- x is the XOR of some of the vectors
 abbrev pub Span : List ℕ → ℕ → Type 0

@@ -1,26 +1,18 @@
 -- Lists of known length, number by number, for the code that has no loop.
 use mathlib.Core.Path.{_≡_, sym, ap, _∙_}
-use mathlib.Core.List.{List, [], _∷_, _++_}
-use Prim.Native.Nat.{ℕ, zero, suc, _+_, _≤_}
+use mathlib.Core.List.{List, [], _∷_, _++_, map}
+use Prim.Native.Nat.{ℕ, _+_}
 use native.Mathlib.Omega.{arith}
 use lib.Bits.{bitAnd}
-use lib.ListN.{length, getD, drop, drop-of-length-le}
-use lib.Seq.{drop-cons}
-use Rattle.logic.specs.Lists.{along, total}
+use lib.ListN.{length, getD}
+use Rattle.logic.specs.Lists.{along, total, numbersFrom}
+use Rattle.logic.proofs.Members.{spelled}
 use Rattle.span.specs.Span.{clear, reduced, rests, one, fresh, generators}
 use Rattle.span.proofs.Elimination.{reduced-more}
 
 -- n numbers from number i on
 abbrev cells : List ℕ → ℕ → ℕ → List ℕ
-cells l i zero = []
-cells l i (suc n) = getD l i 0 ∷ cells l (suc i) n
-
-cells-drop : (l : List ℕ) (i n : ℕ) → length l ≡ i + n → drop i l ≡ cells l i n
-cells-drop l i zero h = let m : length l ≤ i = omega arith in drop-of-length-le l m
-cells-drop l i (suc n) h = drop-cons l i 0 (omega arith) ∙ ap (λ r. getD l i 0 ∷ r) (cells-drop l (suc i) n (omega arith))
-
-pub spelled : (l : List ℕ) (n : ℕ) → length l ≡ n → l ≡ cells l 0 n
-spelled l n h = cells-drop l 0 n (omega arith)
+cells l i n = map (λ j. getD l j 0) (numbersFrom i n)
 
 next : (rows c y : ℕ) (cs basis : List ℕ) → y ≡ reduced basis (bitAnd rows c) → rests rows (c ∷ cs) basis ≡ y ∷ rests rows cs (basis ++ (y ∷ []))
 unfolding rests
@@ -37,7 +29,7 @@ module _ (rows : ℕ) (l : List ℕ) where
       → (a ∷ b ∷ c ∷ d ∷ e ∷ f ∷ []) ≡ rests rows (generators l) []
   unfolding rests along
   rests-six h a b c d e f ha hb hc hd he hf =
-      sym (ap (λ m. rests rows (generators m) []) (spelled l 5 h)
+      sym (ap (λ m. rests rows (generators m) []) (sym (spelled l 5 h))
       ∙ next rows 65535 a (cells l 0 5) [] ha
       ∙ ap (λ r. a ∷ r) (next rows (getD l 0 0) b (cells l 1 4) (a ∷ []) hb)
       ∙ ap (λ r. a ∷ b ∷ r) (next rows (getD l 1 0) c (cells l 2 3) (a ∷ b ∷ []) hc)
@@ -60,7 +52,7 @@ module _ (rows : ℕ) (l : List ℕ) where
         → one a + (one b + (one c + one d)) ≡ fresh rows l basis
     unfolding rests fresh total
     fresh-four h a b c d ha hb hc hd =
-        let e = ap (total one) (ap (λ m. rests rows m basis) (spelled l 4 h)
+        let e = ap (total one) (ap (λ m. rests rows m basis) (sym (spelled l 4 h))
         ∙ next rows (getD l 0 0) a (cells l 1 3) basis ha
         ∙ ap (λ r. a ∷ r) (next rows (getD l 1 0) b (cells l 2 2) (basis ++ (a ∷ [])) (hb ∙ sym (reduced-more basis a (bitAnd rows (getD l 1 0)))))
         ∙ ap (λ r. a ∷ b ∷ r) (next rows (getD l 2 0) c (cells l 3 1) (basis ++ (a ∷ []) ++ (b ∷ [])) (hc ∙ more-two a b (bitAnd rows (getD l 2 0))))

@@ -6,7 +6,7 @@ use lib.Bits.{bitAnd, bitXor}
 use lib.Dec.{eqb, ltb}
 use Rattle.logic.specs.Rules.{pick}
 use Rattle.logic.specs.Lists.{along, total}
-use Rattle.slices.specs.declared.Wanted.{Wanted}
+use Rattle.columns.specs.declared.Wanted.{Wanted}
 
 -- x with b XORed in where that makes it less, which is where x has the highest one of b
 unfoldable pub clear : ℕ → ℕ → ℕ

@@ -1,5 +1,5 @@
-// How many gates of two or more controls a table still wants at least: elimination over the columns, with no loop and no branch.
-use slices::Wanted;
+// How many gates of two or more controls a table still wants at least: elimination over the columns, with no loop.
+use columns::Wanted;
 ghost use mathlib.Core.Path.{_≡_};
 ghost use mathlib.Core.List.{[]};
 ghost use Prim.Native.Nat.{_≤_};

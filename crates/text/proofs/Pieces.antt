@@ -10,7 +10,7 @@ use lib.ListN.{length, drop, getD, set, length-append, drop-of-length-le}
 use lib.Seq.{sets, sets-eq, drop-cons}
 use Rattle.logic.specs.Rules.{pick}
 use Rattle.verify.specs.declared.Measures.{Measures}
-use Rattle.text.specs.Text.{place, decimal, spaced, hexDigit, hexOf, refusedLine, foundLine, placed}
+use Rattle.text.specs.Text.{place, decimal, spaced, hexDigit, hexOf, refusedLine, foundLine, inFront}
 use Rattle.text.specs.Writing.{over, Wrote}
 
 over-append : (s t l : List ℕ) (i : ℕ) → over (over l i s) (i + length s) t ≡ over l i (s ++ t)
@@ -38,9 +38,10 @@ module _ {l line n : List ℕ} {k : ℕ} (w : Wrote l 0 line n k) where
   pub line-size : k ≡ length line
   line-size = omega (arith, w .size)
 
-  pub line-placed : length line ≤ length l → n ≡ placed line l
-  unfolding over placed
-  line-placed h = let e : 0 + length line ≡ length line = omega arith in w .bytes ∙ sets-eq line l 0 (omega arith) ∙ ap (λ (k : ℕ). line ++ drop k l) e
+  pub line-in-front : length line ≤ length l → n ≡ inFront line l
+  unfolding over inFront
+  line-in-front h =
+      let e : 0 + length line ≡ length line = omega arith in w .bytes ∙ sets-eq line l 0 (omega arith) ∙ ap (λ (k : ℕ). line ++ drop k l) e
 
 -- what a loop that has written k bytes of a text still owes
 pub text-more : (l text : List ℕ) (i k : ℕ) → k < length text
@@ -54,7 +55,8 @@ text-done l text i k h = rw (drop-of-length-le text h)
 
 -- the same for hexadecimal digits
 pub hex-more : (l bytes : List ℕ) (i k : ℕ) → k < length bytes
-    → over (set (set l (i + 2 * k) (hexDigit (getD bytes k 0 / 16))) (i + 2 * k + 1) (hexDigit (getD bytes k 0 % 16))) (i + 2 * (k + 1)) (hexOf (drop (k + 1) bytes))
+    → over (set (set l (i + 2 * k) (hexDigit (getD bytes k 0 / 16))) (i + 2 * k + 1) (hexDigit (getD bytes k 0 % 16))) (i + 2 * (k + 1))
+    (hexOf (drop (k + 1) bytes))
     ≡ over l (i + 2 * k) (hexOf (drop k bytes))
 unfolding over hexOf
 hex-more l bytes i k h =
@@ -92,4 +94,5 @@ refused-short code = simp length-append (omega (arith, decimal-short code))
 
 pub found-short : (m : Measures) (bytes : List ℕ) → length bytes ≤ 15 → length (foundLine m bytes) ≤ 64
 unfolding foundLine
-found-short m bytes h = simp length-append (omega (arith, spaced-short (m .gates), spaced-short (m .cost), spaced-short (m .depth), hex-length bytes))
+found-short m bytes h =
+    simp length-append (omega (arith, spaced-short (m .gates), spaced-short (m .cost), spaced-short (m .depth), hex-length bytes))

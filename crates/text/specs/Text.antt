@@ -46,5 +46,5 @@ unfoldable pub foundLine : Measures → List ℕ → List ℕ
 foundLine m bytes = foundWord ++ (spaced (m .gates) ++ (spaced (m .cost) ++ (spaced (m .depth) ++ (hexOf bytes ++ lineFeed))))
 
 -- what a buffer holds after a line was written at its start: later bytes are untouched
-unfoldable pub placed : List ℕ → List ℕ → List ℕ
-placed line out = line ++ drop (length line) out
+unfoldable pub inFront : List ℕ → List ℕ → List ℕ
+inFront line out = line ++ drop (length line) out

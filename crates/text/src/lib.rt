@@ -4,7 +4,7 @@ ghost use mathlib.Core.Path.{_≡_};
 ghost use mathlib.Core.List.{[], _∷_};
 ghost use Prim.Native.Nat.{_+_, _*_, _<_, _≤_};
 ghost use lib.ListN.{length};
-ghost use Rattle.text.specs.Text.{place, decimal, hexDigit, hexOf, spaced, refusedLine, foundLine, placed};
+ghost use Rattle.text.specs.Text.{place, decimal, hexDigit, hexOf, spaced, refusedLine, foundLine, inFront};
 ghost use Rattle.text.specs.Writing.{Wrote};
 
 // Writes one byte at an index, and answers the next index, as all below.
@@ -86,7 +86,7 @@ fn put_hex(out: &mut [u8], i: usize, bytes: &[u8]) -> usize
 pub fn refused_line(code: u8, out: &mut [u8]) -> usize
     requires { ⌜ 64 ≤ length (now out) ⌝ }
     ensures { λ r. ⌜ r ≡ length (refusedLine code) ⌝ }
-    ensures { λ r. ⌜ now (out .exit) ≡ placed (refusedLine code) (now (out .entry)) ⌝ }
+    ensures { λ r. ⌜ now (out .exit) ≡ inFront (refusedLine code) (now (out .entry)) ⌝ }
 {
     let a = put_text(out, 0, b"refused ");
     let b = put_decimal(out, a, code as usize);
@@ -98,7 +98,7 @@ pub fn found_line(m: Measures, bytes: &[u8], out: &mut [u8]) -> usize
     requires { ⌜ length (now bytes) ≤ 15 ⌝ }
     requires { ⌜ 64 ≤ length (now out) ⌝ }
     ensures { λ r. ⌜ r ≡ length (foundLine m (now (bytes .entry))) ⌝ }
-    ensures { λ r. ⌜ now (out .exit) ≡ placed (foundLine m (now (bytes .entry))) (now (out .entry)) ⌝ }
+    ensures { λ r. ⌜ now (out .exit) ≡ inFront (foundLine m (now (bytes .entry))) (now (out .entry)) ⌝ }
 {
     let a = put_text(out, 0, b"found ");
     let b = put_spaced(out, a, m.gates as usize);

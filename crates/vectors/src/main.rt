@@ -1,4 +1,5 @@
-// Runs the calls that stand in text files, one to a line, and writes a line for each: its answer, or a heading as it is.
+// Runs the calls that stand in text files, one to a line, and writes a line for each: its answer, or a heading as it is. A line that is
+// no call gets `bad line` and its number, so that a slip in the data is seen.
 use libc::STDOUT_FILENO;
 use parity::TableParity;
 use record::Checked;
@@ -26,37 +27,139 @@ fn say(text: &[u8]) {
     io::write_all(STDOUT_FILENO, text);
 }
 
-// Runs the lines of a file of at most 65,536 bytes.
+// Runs the lines of a file of fewer than 65,536 bytes.
 fn run_file(name: &[u8]) {
     let file = os::open_read(name);
     if file < 0 {
-        say(b"missing ");
-        say(name);
-        say(b"\n");
+        complain(b"missing ", name);
         return;
     }
     let mut text = io::large_buffer();
     let n = io::read_full(file, &mut text);
     libc::close(file);
+    if n == 65536 {
+        complain(b"too long ", name);
+    }
     run_lines(&text[..n]);
+}
+
+fn complain(what: &[u8], name: &[u8]) {
+    say(what);
+    say(name);
+    say(b"\n");
 }
 
 fn run_lines(text: &[u8]) {
     let mut at = 0;
+    let mut number = 0;
     while at < text.len() {
         let end = find(text, at, b'\n');
-        run_line(&text[at..end]);
+        number += 1;
+        run_line(&text[at..end], number);
         at = past(text, end);
     }
 }
 
-fn run_line(line: &[u8]) {
+fn run_line(line: &[u8], number: usize) {
     if logic::at(line, 0) == b'#' {
         say(line);
     } else {
-        run_call(line);
+        run_sound(line, number);
     }
     say(b"\n");
+}
+
+fn run_sound(line: &[u8], number: usize) {
+    if is_call(line) {
+        run_call(line);
+    } else {
+        say(b"bad line ");
+        io::print_decimal(STDOUT_FILENO, number as u64);
+    }
+}
+
+// Whether a line is a call: a name, and as many words of bytes as it takes.
+fn is_call(line: &[u8]) -> bool {
+    let a = find(line, 0, b' ');
+    let from = past(line, a);
+    let b = find(line, from, b' ');
+    let to = past(line, b);
+    let letter = logic::at(line, 0);
+    let words = logic::both(is_word(&line[from..b]), second_ok(letter, &line[to..]));
+    logic::both(is_name(letter, &line[0..a]), words)
+}
+
+fn is_name(letter: u8, name: &[u8]) -> bool {
+    match letter {
+        b'j' => same(name, b"job"),
+        b'c' => same(name, b"circuit"),
+        b'f' => same(name, b"forwards"),
+        b'b' => same(name, b"backwards"),
+        b'm' => same(name, b"measure"),
+        b'v' => same(name, b"verify"),
+        b'p' => same(name, b"parity"),
+        b's' => same(name, b"search"),
+        b'l' => same(name, b"line"),
+        _ => false,
+    }
+}
+
+// What stands after the first word: a byte for a run and a search, a record for two calls, nothing for the others.
+fn second_ok(letter: u8, rest: &[u8]) -> bool {
+    match letter {
+        b'f' => is_byte(rest),
+        b'b' => is_byte(rest),
+        b's' => is_byte(rest),
+        b'm' => is_word(rest),
+        b'v' => is_word(rest),
+        _ => rest.len() == 0,
+    }
+}
+
+fn is_byte(word: &[u8]) -> bool {
+    logic::both(word.len() == 2, is_digits(word))
+}
+
+// Whether a word is `-`, or pairs of upper-case digits that fit the buffer.
+fn is_word(word: &[u8]) -> bool {
+    if same(word, b"-") {
+        return true;
+    }
+    let paired = logic::both(word.len() % 2 == 0, word.len() <= 8192);
+    logic::both(logic::both(word.len() != 0, paired), is_digits(word))
+}
+
+fn is_digits(word: &[u8]) -> bool {
+    let mut i = 0;
+    while i < word.len() {
+        if !is_digit(word[i]) {
+            return false;
+        }
+        i += 1;
+    }
+    true
+}
+
+fn is_digit(b: u8) -> bool {
+    match b {
+        b'0'..=b'9' => true,
+        b'A'..=b'F' => true,
+        _ => false,
+    }
+}
+
+fn same(a: &[u8], b: &[u8]) -> bool {
+    if a.len() != b.len() {
+        return false;
+    }
+    let mut i = 0;
+    while i < a.len() {
+        if a[i] != logic::at(b, i) {
+            return false;
+        }
+        i += 1;
+    }
+    true
 }
 
 // Runs a call: its name, and one or two words of bytes.

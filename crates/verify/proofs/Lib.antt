@@ -1,3 +1,3 @@
-pub mod Rows
 pub mod Codes
 pub mod Pass
+pub mod Bounds

@@ -1,2 +1,2 @@
-pub mod Realize
 pub mod Calls
+pub mod Demand

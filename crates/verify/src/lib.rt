@@ -1,16 +1,16 @@
 // The public calls on circuits: running both ways, measuring, and verifying (document 01: judging).
 use circuit::Weights;
 ghost use mathlib.Core.Path.{_≡_};
-ghost use mathlib.Core.Logic.{_⊎_};
-ghost use Prim.Native.Nat.{_≤_, _<_};
+ghost use Prim.Native.Nat.{_≤_};
 ghost use lib.ListN.{length};
 ghost use Rattle.logic.specs.Rules.{pick};
 ghost use Rattle.circuit.specs.Run.{forwards, backwards};
 ghost use Rattle.circuit.specs.Measure.{weightOf};
-ghost use Rattle.record.specs.Jobs.{dataWires, jobCode, rows};
-ghost use Rattle.record.specs.Circuits.{circuitCode, gates};
-ghost use Rattle.verify.specs.Realize.{bitAgrees, rowAgrees, agrees, realizes, allowed};
-ghost use Rattle.verify.specs.Calls.{runCode, runOf, forwardsOf, backwardsOf, measuresOf, sameWires, measuredOf, measureCode, measureOf, limitRules, limitsCode, verifyRest, verifyCode, verifyOf, ranCode, measuredCode};
+ghost use Rattle.record.specs.Jobs.{jobCode};
+ghost use Rattle.record.specs.Circuits.{circuitCode};
+ghost use Rattle.verify.specs.Calls.{ranAnswer, runCode, runOf, forwardsOf, backwardsOf};
+ghost use Rattle.verify.specs.Calls.{measuredAnswer, measuresOf, measuresFor, sameWires, measureCode, measureOf};
+ghost use Rattle.verify.specs.Calls.{limitRules, limitsCode, verifyRest, verifyOf};
 
 // Gates, cost and depth.
 pub struct Measures {
@@ -51,8 +51,7 @@ fn run_list(forth: bool, list: &[u8], value: usize) -> usize
 
 // Runs a circuit one way or the other.
 fn run(forth: bool, c: &[u8], value: u8) -> Ran
-    ensures { λ r. ⌜ r ≡ runOf forth (now (c .entry)) value ⌝ }
-    ensures { λ r. ⌜ ranCode r ≡ runCode (now (c .entry)) value ⌝ }
+    ensures { λ r. ⌜ ranAnswer r ≡ runOf forth (now (c .entry)) value ⌝ }
 {
     let code = run_code(c, value);
     if code != 0 {
@@ -63,22 +62,20 @@ fn run(forth: bool, c: &[u8], value: u8) -> Ran
 
 // Runs a circuit from its first gate to its last.
 pub fn run_forwards(c: &[u8], value: u8) -> Ran
-    ensures { λ r. ⌜ r ≡ forwardsOf (now (c .entry)) value ⌝ }
-    ensures { λ r. ⌜ ranCode r ≡ runCode (now (c .entry)) value ⌝ }
+    ensures { λ r. ⌜ ranAnswer r ≡ forwardsOf (now (c .entry)) value ⌝ }
 {
     run(true, c, value)
 }
 
 // Runs a circuit from its last gate to its first.
 pub fn run_backwards(c: &[u8], value: u8) -> Ran
-    ensures { λ r. ⌜ r ≡ backwardsOf (now (c .entry)) value ⌝ }
-    ensures { λ r. ⌜ ranCode r ≡ runCode (now (c .entry)) value ⌝ }
+    ensures { λ r. ⌜ ranAnswer r ≡ backwardsOf (now (c .entry)) value ⌝ }
 {
     run(false, c, value)
 }
 
 // The measures of a gate list.
-pub fn measure_list(list: &[u8], prices: Weights, durations: Weights) -> Measures
+fn measure_list(list: &[u8], prices: Weights, durations: Weights) -> Measures
     requires { ⌜ length (now list) ≤ 255 ⌝ }
     ensures { λ r. ⌜ r ≡ measuresOf (weightOf prices) (weightOf durations) (now (list .entry)) ⌝ }
 {
@@ -108,83 +105,26 @@ fn measure_code(job: &[u8], c: &[u8]) -> u8
 }
 
 // The measures of a sound circuit at a job's prices and durations.
-fn measures_for(job: &[u8], c: &[u8]) -> Measured
+fn measures_for(job: &[u8], c: &[u8]) -> Measures
     requires { ⌜ circuitCode (now c) ≡ 0 ⌝ }
-    ensures { λ r. ⌜ r ≡ measuredOf 0 (now (job .entry)) (now (c .entry)) ⌝ }
+    ensures { λ r. ⌜ r ≡ measuresFor (now (job .entry)) (now (c .entry)) ⌝ }
 {
-    Measured::Within(measure_list(
+    measure_list(
         record::gate_list(c),
         record::prices(job),
         record::durations(job),
-    ))
+    )
 }
 
 // Measures a circuit at a job's prices and durations.
 pub fn measure(job: &[u8], c: &[u8]) -> Measured
-    ensures { λ r. ⌜ r ≡ measureOf (now (job .entry)) (now (c .entry)) ⌝ }
-    ensures { λ r. ⌜ measuredCode r ≡ measureCode (now (job .entry)) (now (c .entry)) ⌝ }
+    ensures { λ r. ⌜ measuredAnswer r ≡ measureOf (now (job .entry)) (now (c .entry)) ⌝ }
 {
     let code = measure_code(job, c);
     if code != 0 {
         return Measured::Refused(code);
     }
-    measures_for(job, c)
-}
-
-// Whether output `j` of a row, where it is wanted, is what the wire laid out for it ends with.
-fn bit_agrees(p: u8, row: u8, v: usize, j: usize) -> bool
-    requires { ⌜ j < 4 ⌝ }
-    ensures { λ r. ⌜ r ≡ bitAgrees p row v j ⌝ }
-{
-    let care = logic::wide(row) / 16;
-    let value = logic::wide(row) % 16;
-    let wire = (logic::wide(p) >> (6 - 2 * j)) % 4;
-    logic::implies((care >> j) % 2 == 1, (v >> wire) % 2 == (value >> j) % 2)
-}
-
-fn row_agrees(p: u8, row: u8, v: usize) -> bool
-    ensures { λ r. ⌜ r ≡ rowAgrees p row v ⌝ }
-{
-    let low = logic::both(
-        bit_agrees(p, row, v, 1),
-        logic::both(bit_agrees(p, row, v, 0), true),
-    );
-    logic::both(
-        bit_agrees(p, row, v, 3),
-        logic::both(bit_agrees(p, row, v, 2), low),
-    )
-}
-
-// Whether the list, with its outputs laid out so, agrees with every row.
-fn table_agrees(p: u8, list: &[u8], table: &[u8]) -> bool
-    ensures { λ r. ⌜ r ≡ agrees p (forwards (now (list .entry))) (now (table .entry)) ⌝ }
-{
-    let mut x = 0;
-    while x < table.len() {
-        if !row_agrees(p, table[x], circuit::forwards(list, x)) {
-            return false;
-        }
-        x += 1;
-    }
-    true
-}
-
-fn realizes(job: &[u8], p: u8, list: &[u8]) -> bool
-    ensures { λ r. ⌜ r ≡ realizes (now (job .entry)) p (now (list .entry)) ⌝ }
-{
-    table_agrees(p, list, record::table(job))
-}
-
-fn allowed(job: &[u8], p: u8) -> bool
-    requires { ⌜ (dataWires (now job) ≡ 3) ⊎ (dataWires (now job) ≡ 4) ⌝ }
-    ensures { λ r. ⌜ r ≡ allowed (now (job .entry)) p ⌝ }
-{
-    let n = record::data_wires(job);
-    if record::free_layout(job) == 1 {
-        record::layout_ok(n, p)
-    } else {
-        if n == 3 { p == 24 } else { p == 27 }
-    }
+    Measured::Within(measures_for(job, c))
 }
 
 fn limit_rules(m: Measures, most_gates: usize, most_cost: usize, most_depth: usize) -> u8
@@ -195,13 +135,12 @@ fn limit_rules(m: Measures, most_gates: usize, most_cost: usize, most_depth: usi
     logic::rule(m.gates as usize <= most_gates, 17, dear)
 }
 
-fn limits_code(job: &[u8], list: &[u8]) -> u8
-    requires { ⌜ length (now list) ≤ 255 ⌝ }
-    ensures { λ r. ⌜ r ≡ limitsCode (now (job .entry)) (now (list .entry)) ⌝ }
+fn limits_code(job: &[u8], c: &[u8]) -> u8
+    requires { ⌜ circuitCode (now c) ≡ 0 ⌝ }
+    ensures { λ r. ⌜ r ≡ limitsCode (now (job .entry)) (now (c .entry)) ⌝ }
 {
-    let m = measure_list(list, record::prices(job), record::durations(job));
     limit_rules(
-        m,
+        measures_for(job, c),
         record::gate_limit(job),
         record::cost_limit(job),
         record::depth_limit(job),
@@ -215,18 +154,14 @@ fn verify_rest(job: &[u8], c: &[u8]) -> u8
     ensures { λ r. ⌜ r ≡ verifyRest (now (job .entry)) (now (c .entry)) ⌝ }
 {
     let p = record::layout_of(c);
-    let met = logic::rule(
-        realizes(job, p, record::gate_list(c)),
-        16,
-        limits_code(job, record::gate_list(c)),
-    );
-    logic::rule(allowed(job, p), 15, met)
+    let agreed = table::agrees(p, record::gate_list(c), record::table(job));
+    let allowed = table::allowed(record::data_wires(job), record::free_layout(job), p);
+    logic::rule(allowed, 15, logic::rule(agreed, 16, limits_code(job, c)))
 }
 
 // Verifies a circuit for a job: a pass has its measures.
 pub fn verify(job: &[u8], c: &[u8]) -> Measured
-    ensures { λ r. ⌜ r ≡ verifyOf (now (job .entry)) (now (c .entry)) ⌝ }
-    ensures { λ r. ⌜ measuredCode r ≡ verifyCode (now (job .entry)) (now (c .entry)) ⌝ }
+    ensures { λ r. ⌜ measuredAnswer r ≡ verifyOf (now (job .entry)) (now (c .entry)) ⌝ }
 {
     let code = measure_code(job, c);
     if code != 0 {
@@ -236,5 +171,5 @@ pub fn verify(job: &[u8], c: &[u8]) -> Measured
     if rest != 0 {
         return Measured::Refused(rest);
     }
-    measures_for(job, c)
+    Measured::Within(measures_for(job, c))
 }

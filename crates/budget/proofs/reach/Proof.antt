@@ -25,5 +25,4 @@ returns-2 c =
 
 pub reach-spec : {M : Type 1} → statement M
 reach-spec =
-    tie.close
-    (tie.spec returns mul-above (λ c κs. search needs) (λ c κs. search needs) (λ c κs. search needs) returns-2)
+    tie.close (tie.spec returns mul-above (λ c κs. search needs) (λ c κs. search needs) (λ c κs. search needs) returns-2)

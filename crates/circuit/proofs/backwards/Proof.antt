@@ -1,3 +1,4 @@
+-- The gates are applied from the last one down. Invariant: the value at hand is that of the gates from i on, run backwards.
 use mathlib.Core.Path.{_≡_, sym, ap, _∙_}
 use Prim.Native.Nat.{_≤_, _-_, _+_}
 use native.Mathlib.Omega.{arith}
@@ -16,7 +17,10 @@ abbrev μ-loop : tie.MeasureT-loop
 μ-loop gates value u₀ i₀ u i = i
 
 loop-holds : tie.Need-loop-holds Inv-loop μ-loop
-loop-holds c = (search needs, sym (back-done step (c .before .args .gates .now) (length (c .before .args .gates .now)) (c .before .args .value) (omega arith)))
+loop-holds c = (
+  search needs,
+  sym (back-done step (c .before .args .gates .now) (length (c .before .args .gates .now)) (c .before .args .value) (omega arith)),
+)
 
 loop-again : tie.Need-loop-again Inv-loop μ-loop
 loop-again c =
@@ -35,13 +39,5 @@ returns c =
 pub backwards-spec : {M : Type 1} → statement M
 backwards-spec =
     tie.close
-    (tie.spec
-    Inv-loop
-    μ-loop
-    loop-holds
-    (λ c. search needs)
-    (λ c. search needs)
-    (λ c κs. search needs)
-    (λ c. search needs)
-    loop-again
+    (tie.spec Inv-loop μ-loop loop-holds (λ c. search needs) (λ c. search needs) (λ c κs. search needs) (λ c. search needs) loop-again
     returns)

@@ -8,19 +8,11 @@ returns-2 : tie.Need-returns-2
 returns-2 c = rw (c .before .before .kind .given .1) (c .cell .ensures)
 
 returns-3 : tie.Need-returns-3
-returns-3 c = rw (c .before .before .before .before .kind2 .given .1) (c .later .ensures ∙ ap₂ max (c .before .before .cell2 .ensures) (c .before .cell3 .ensures))
+returns-3 c =
+    rw (c .before .before .before .before .kind2 .given .1)
+    (c .later .ensures ∙ ap₂ max (c .before .before .cell2 .ensures) (c .before .cell3 .ensures))
 
 pub controls-ready-spec : {M : Type 1} → statement M
 controls-ready-spec =
-    tie.close
-    (tie.spec
-    (λ c. search needs)
-    (λ c. search needs)
-    (λ c κs. search needs)
-    (λ c. search needs)
-    (λ c κs. search needs)
-    (λ c κs. search needs)
-    (λ c κs. search needs)
-    (λ c. search needs)
-    returns-2
-    returns-3)
+    tie.close (tie.spec (λ c. search needs) (λ c. search needs) (λ c κs. search needs) (λ c. search needs) (λ c κs. search needs)
+    (λ c κs. search needs) (λ c κs. search needs) (λ c. search needs) returns-2 returns-3)

@@ -1,3 +1,5 @@
+-- Prices are added up gate by gate. Invariant: the sum at hand and the cost of the gates from i on make the cost of the list; it stays
+-- below 255 a gate, so that it fits.
 use mathlib.Core.Path.{_≡_}
 use Prim.Native.Nat.{_≤_, _-_, _+_, _*_}
 use native.Mathlib.Omega.{arith}
@@ -9,7 +11,8 @@ use Rattle.circuit.proofs.cost.Statement.{statement}
 use Rattle.circuit.proofs.cost.Tie as tie
 
 abbrev Inv-loop : tie.InvT-loop
-Inv-loop gates prices sum₀ i₀ sum i = (i ≤ length gates) × ((sum ≤ 255 * i) × (sum + cost (weightOf prices) (drop i gates) ≡ cost (weightOf prices) gates))
+Inv-loop gates prices sum₀ i₀ sum i =
+    (i ≤ length gates) × ((sum ≤ 255 * i) × (sum + cost (weightOf prices) (drop i gates) ≡ cost (weightOf prices) gates))
 
 abbrev μ-loop : tie.MeasureT-loop
 μ-loop gates prices sum₀ i₀ sum i = length gates - i
@@ -29,15 +32,5 @@ returns c =
 pub cost-spec : {M : Type 1} → statement M
 cost-spec =
     tie.close
-    (tie.spec
-    Inv-loop
-    μ-loop
-    (λ c. search needs)
-    (λ c. search needs)
-    (λ c κs. search needs)
-    (λ c. search needs)
-    (λ c. search needs)
-    (λ c. search needs)
-    (λ c. search needs)
-    loop-again
-    returns)
+    (tie.spec Inv-loop μ-loop (λ c. search needs) (λ c. search needs) (λ c κs. search needs) (λ c. search needs) (λ c. search needs)
+    (λ c. search needs) (λ c. search needs) loop-again returns)

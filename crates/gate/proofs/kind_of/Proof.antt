@@ -12,9 +12,10 @@ returns-2 : tie.Need-returns-2
 returns-2 c = rw (c .before .match .keys2, c .lowest .ensures)
 
 returns-3 : tie.Need-returns-3
-returns-3 c = rw (two-or-more (c .before .before .before .args .m) (c .before .before .match .rest .0 .1) (c .before .before .match .rest .1)) (ap₂ Toffoli (c .before .lowest2 .ensures) (c .highest .ensures))
+returns-3 c =
+    rw (two-or-more (c .before .before .before .args .m) (c .before .before .match .rest .0 .1) (c .before .before .match .rest .1))
+    (ap₂ Toffoli (c .before .lowest2 .ensures) (c .highest .ensures))
 
 pub kind-of-spec : {M : Type 1} → statement M
 kind-of-spec =
-    tie.close
-    (tie.spec (λ c κs. search needs) (λ c κs. search needs) (λ c κs. search needs) returns returns-2 returns-3)
+    tie.close (tie.spec (λ c κs. search needs) (λ c κs. search needs) (λ c κs. search needs) returns returns-2 returns-3)

@@ -10,7 +10,12 @@ use Rattle.gate.proofs.step.Tie as tie
 returns : tie.Need-returns
 unfolding step
 returns c =
-    rw (shifted-one (c .before .before .wide .result / 32) (omega arith), c .before .before .wide .ensures, ← c .before .wide2 .ensures, eq-eqb _ _ (c .if1 .taken))
+    rw (
+      shifted-one (c .before .before .wide .result / 32) (omega arith),
+      c .before .before .wide .ensures,
+      ← c .before .wide2 .ensures,
+      eq-eqb _ _ (c .if1 .taken),
+    )
 
 returns-2 : tie.Need-returns-2
 unfolding step

@@ -1,4 +1,5 @@
-use mathlib.Core.Path.{sym, _∙_}
+-- Each answer of the search is turned into its line; the record found fits the fifteen bytes lent.
+use mathlib.Core.Path.{sym}
 use Prim.Native.Nat.{_≤_}
 use native.Mathlib.Omega.{arith}
 use borrow.Author.Needs.{needs}
@@ -13,7 +14,7 @@ use Rattle.line.proofs.line.Tie as tie
 
 -- the record found fits the fifteen bytes
 small : (c : tie.After-size) → c .size .given .0 .0 ≤ 15
-small c = rw (c .size .given .1) at (c .before .before .before .search .ensures .1 .1 .0)
+small c = rw (c .size .given .1) at (c .before .before .before .search .ensures .1 .0)
 
 within : (c : tie.After-size) → c .size .given .0 .0 ≤ length (c .before .before .before .search .last .1 .0)
 within c = let k = c .before .before .before .search .kept .1 .0 in let s = small c in omega arith
@@ -37,7 +38,7 @@ returns c =
     let z = r .before .before .before in
     let q = z .before .before .before in
     let s = q .before .before .before .before in
-    let e = when-refused (searchOf (s .args .job .now) 15) (z .code .given .0 .0) (sym (q .search .ensures .0) ∙ z .code .given .1) in
+    let e = when-refused (searchOf (s .args .job .now) 15) (q .search .result) (z .code .given .0 .0) (q .search .ensures .0) (z .code .given .1) in
     (rw e (r .refused-line .ensures .0), (rw (r .refused-line .ensures .0) (refused-short (z .code .given .0 .0)), rw e (r .refused-line .ensures .1)))
 
 returns-2 : tie.Need-returns-2
@@ -47,22 +48,10 @@ returns-2 c =
     let z = r .before .before .before .before in
     let q = z .before .before .before in
     let s = q .before .before .before .before in
-    let e = when-found (searchOf (s .args .job .now) 15) (z .size .given .0 .0) _ _ (q .search .last .1 .0) (sym (q .search .ensures .0) ∙ z .size .given .1) (q .search .ensures .1 .1 .1) in
+    let e = when-found (searchOf (s .args .job .now) 15) (q .search .result) (z .size .given .0 .0) _ _ (q .search .last .1 .0) (q .search .ensures .0) (z .size .given .1) (q .search .ensures .1 .1) in
     (rw e (r .found-line .ensures .0), (rw (r .found-line .ensures .0) (found-short _ (take (z .size .given .0 .0) (q .search .last .1 .0)) (rw (length-take-le (z .size .given .0 .0) (q .search .last .1 .0) (within z)) (small z))), rw e (r .found-line .ensures .1)))
 
 pub line-spec : {M : Type 1} → statement M
 line-spec =
-    tie.close
-    (tie.spec
-    (λ c. search needs)
-    (λ c κs. search needs)
-    (λ c. search needs)
-    (λ c κs. search needs)
-    (λ c. search needs)
-    array-share-prefix-answer
-    slice-aggregate-found-line
-    found-line-requires
-    (λ c. search needs)
-    returns
-    (λ c. search needs)
-    returns-2)
+    tie.close (tie.spec (λ c. search needs) (λ c κs. search needs) (λ c. search needs) (λ c κs. search needs) (λ c. search needs)
+    array-share-prefix-answer slice-aggregate-found-line found-line-requires (λ c. search needs) returns (λ c. search needs) returns-2)

@@ -7,6 +7,5 @@ use Rattle.logic.proofs.at.Tie as tie
 
 pub at-spec : {M : Type 1} → statement M
 at-spec =
-    tie.close
-    (tie.spec (λ c. search needs) (λ c. search needs)
+    tie.close (tie.spec (λ c. search needs) (λ c. search needs)
     (λ c. sym (List·getD-eq-default (c .before .args .bytes .now) 0 (omega arith))))

@@ -1,11 +1,11 @@
-use mathlib.Core.Bool.{true, false}
+-- The rows are tested one by one. Invariant: the rows from i on all want every bit exactly where all of them do.
 use mathlib.Core.Path.{_≡_, refl, sym, _∙_}
 use Prim.Native.Nat.{_≤_, _-_}
 use native.Mathlib.Omega.{arith}
 use borrow.Author.Tests.{not-true, not-false}
 use borrow.Author.Needs.{needs}
 use lib.ListN.{length, drop}
-use Rattle.logic.proofs.Fold.{all-turn, all-done}
+use Rattle.logic.proofs.Fold.{all-stop, all-step, all-end}
 use Rattle.logic.specs.Lists.{allOf}
 use Rattle.parity.specs.Parity.{fullRow}
 use Rattle.parity.proofs.all_full.Statement.{statement}
@@ -24,33 +24,26 @@ returns : tie.Need-returns Inv-loop μ-loop
 returns c =
     let p = c .before .before .before .before in
     let s = p .before .before in
-    let e = sym (c .before .full-row .ensures) ∙ not-true _ (c .if1 .taken) in
-    sym (sym (p .loop .inv .1) ∙ all-turn (fullRow (s .args .n)) false (s .args .rows .now) (p .loop .i) 0 (omega arith) e)
+    all-stop (fullRow (s .args .n)) (s .args .rows .now) (p .loop .i) 0 (p .loop .inv .1) (omega arith)
+    (sym (c .before .full-row .ensures) ∙ not-true _ (c .if1 .taken))
 
 loop-again : tie.Need-loop-again Inv-loop μ-loop
 loop-again c =
     let p = c .before .before .before .before in
-    let s = p .before .before in
-    let e = sym (c .before .full-row .ensures) ∙ not-false _ (c .if1 .left) in
-    (omega arith, sym (all-turn (fullRow (s .args .n)) true (s .args .rows .now) (p .loop .i) 0 (omega arith) e) ∙ p .loop .inv .1)
+    let s = p .before .before in (
+      omega arith,
+      all-step (fullRow (s .args .n)) (s .args .rows .now) (p .loop .i) 0 (p .loop .inv .1) (omega arith)
+          (sym (c .before .full-row .ensures) ∙ not-false _ (c .if1 .left)),
+    )
 
 returns-2 : tie.Need-returns-2 Inv-loop μ-loop
 returns-2 c =
     let p = c .before in
     let s = p .before .before in
-    sym (sym (p .loop .inv .1) ∙ all-done (fullRow (s .args .n)) (s .args .rows .now) (p .loop .i) (omega arith))
+    all-end (fullRow (s .args .n)) (s .args .rows .now) (p .loop .i) 0 (p .loop .inv .1) (omega arith)
 
 pub all-full-spec : {M : Type 1} → statement M
 all-full-spec =
     tie.close
-    (tie.spec
-    Inv-loop
-    μ-loop
-    loop-holds
-    (λ c. search needs)
-    (λ c κs. search needs)
-    returns
-    (λ c. search needs)
-    (λ c. search needs)
-    loop-again
-    returns-2)
+    (tie.spec Inv-loop μ-loop loop-holds (λ c. search needs) (λ c κs. search needs) returns (λ c. search needs) (λ c. search needs)
+    loop-again returns-2)

@@ -1,3 +1,4 @@
+-- Each row is compared with those after it. Invariant: the values from i on are distinct exactly where all are.
 use mathlib.Core.Bool.{true, false}
 use mathlib.Core.Path.{_≡_, refl, sym, _∙_}
 use mathlib.Core.List.{map}
@@ -6,7 +7,7 @@ use native.Mathlib.Omega.{arith}
 use borrow.Author.Tests.{not-true, not-false}
 use borrow.Author.Needs.{needs}
 use lib.ListN.{length}
-use Rattle.record.specs.Jobs.{valueOf}
+use Rattle.table.specs.Rows.{valueOf}
 use Rattle.record.proofs.Rest.{part}
 use Rattle.parity.specs.Parity.{distinct}
 use Rattle.parity.proofs.Values.{from, distinct-turn, distinct-done}
@@ -27,7 +28,7 @@ returns c =
     let p = c .before .before .before .before .before in
     let l = p .before .before .args .rows .now in
     let e = rw (part l (p .loop .i + 1)) at (sym (c .before .absent .ensures) ∙ not-true _ (c .if1 .taken)) in
-    sym (sym (p .loop .inv .1) ∙ distinct-turn l (p .loop .i) false (omega arith) e)
+    sym (distinct-turn l (p .loop .i) false (omega arith) e) ∙ p .loop .inv .1
 
 loop-again : tie.Need-loop-again Inv-loop μ-loop
 loop-again c =
@@ -39,23 +40,10 @@ loop-again c =
 returns-2 : tie.Need-returns-2 Inv-loop μ-loop
 returns-2 c =
     let p = c .before in
-    sym (sym (p .loop .inv .1) ∙ distinct-done (p .before .before .args .rows .now) (p .loop .i) (omega arith))
+    sym (distinct-done (p .before .before .args .rows .now) (p .loop .i) (omega arith)) ∙ p .loop .inv .1
 
 pub distinct-spec : {M : Type 1} → statement M
 distinct-spec =
     tie.close
-    (tie.spec
-    Inv-loop
-    μ-loop
-    loop-holds
-    (λ c. search needs)
-    (λ c. search needs)
-    (λ c. search needs)
-    (λ c. search needs)
-    (λ c. search needs)
-    (λ c κs. search needs)
-    returns
-    (λ c. search needs)
-    (λ c. search needs)
-    loop-again
-    returns-2)
+    (tie.spec Inv-loop μ-loop loop-holds (λ c. search needs) (λ c. search needs) (λ c. search needs) (λ c. search needs) (λ c. search needs)
+    (λ c κs. search needs) returns (λ c. search needs) (λ c. search needs) loop-again returns-2)

@@ -1,10 +1,11 @@
+-- Pairs are counted by their earlier row, modulo 2. Invariant: the bit at hand and the pairs of the rows from i on have the parity of all.
 use mathlib.Core.Path.{_≡_}
 use mathlib.Core.List.{map}
 use Prim.Native.Nat.{_≤_, _-_, _+_, _%_}
 use native.Mathlib.Omega.{arith}
 use borrow.Author.Needs.{needs}
 use lib.ListN.{length, length-drop}
-use Rattle.record.specs.Jobs.{valueOf}
+use Rattle.table.specs.Rows.{valueOf}
 use Rattle.record.proofs.Rest.{part}
 use Rattle.parity.specs.Parity.{smaller, inversions}
 use Rattle.parity.proofs.Values.{from, inversions-more, inversions-done}
@@ -38,19 +39,5 @@ returns c =
 
 pub inversions-spec : {M : Type 1} → statement M
 inversions-spec =
-    tie.close
-    (tie.spec
-    Inv-loop
-    μ-loop
-    (λ c. search needs)
-    (λ c. search needs)
-    (λ c. search needs)
-    (λ c. search needs)
-    (λ c. search needs)
-    (λ c. search needs)
-    (λ c κs. search needs)
-    add-odd
-    (λ c. search needs)
-    (λ c. search needs)
-    loop-again
-    returns)
+    tie.close (tie.spec Inv-loop μ-loop (λ c. search needs) (λ c. search needs) (λ c. search needs) (λ c. search needs) (λ c. search needs)
+    (λ c. search needs) (λ c κs. search needs) add-odd (λ c. search needs) (λ c. search needs) loop-again returns)

@@ -1,10 +1,11 @@
+-- Smaller values are counted row by row. Invariant: the count at hand and that of the rows from i on make the whole; it is at most i.
 use mathlib.Core.Path.{_≡_}
 use mathlib.Core.List.{map}
 use Prim.Native.Nat.{_≤_, _-_, _+_}
 use native.Mathlib.Omega.{arith}
 use borrow.Author.Needs.{needs}
 use lib.ListN.{length}
-use Rattle.record.specs.Jobs.{valueOf}
+use Rattle.table.specs.Rows.{valueOf}
 use Rattle.parity.specs.Parity.{smaller}
 use Rattle.parity.proofs.Values.{from, smaller-more, smaller-done}
 use Rattle.parity.proofs.smaller.Statement.{statement}
@@ -32,14 +33,5 @@ returns c =
 pub smaller-spec : {M : Type 1} → statement M
 smaller-spec =
     tie.close
-    (tie.spec
-    Inv-loop
-    μ-loop
-    (λ c. search needs)
-    (λ c. search needs)
-    (λ c κs. search needs)
-    (λ c. search needs)
-    (λ c. search needs)
-    (λ c. search needs)
-    loop-again
-    returns)
+    (tie.spec Inv-loop μ-loop (λ c. search needs) (λ c. search needs) (λ c κs. search needs) (λ c. search needs) (λ c. search needs)
+    (λ c. search needs) loop-again returns)

@@ -1,11 +1,11 @@
-use mathlib.Core.Bool.{true, false}
+-- The gates are tested one by one. Invariant: the gates from i on are all in order exactly where all of them are.
 use mathlib.Core.Path.{_≡_, refl, sym, _∙_}
 use Prim.Native.Nat.{_≤_, _-_}
 use native.Mathlib.Omega.{arith}
 use borrow.Author.Tests.{not-true, not-false}
 use borrow.Author.Needs.{needs}
 use lib.ListN.{length, drop}
-use Rattle.logic.proofs.Fold.{all-turn, all-done}
+use Rattle.logic.proofs.Fold.{all-stop, all-step, all-end}
 use Rattle.gate.specs.Gates.{lawful}
 use Rattle.logic.specs.Lists.{allOf}
 use Rattle.record.proofs.all_lawful.Statement.{statement}
@@ -24,33 +24,26 @@ returns : tie.Need-returns Inv-loop μ-loop
 returns c =
     let p = c .before .before .before .before in
     let s = p .before .before in
-    let e = sym (c .before .lawful .ensures) ∙ not-true _ (c .if1 .taken) in
-    sym (sym (p .loop .inv .1) ∙ all-turn (lawful 2 (s .args .w)) false (s .args .list .now) (p .loop .i) 0 (omega arith) e)
+    all-stop (lawful 2 (s .args .w)) (s .args .list .now) (p .loop .i) 0 (p .loop .inv .1) (omega arith)
+    (sym (c .before .lawful .ensures) ∙ not-true _ (c .if1 .taken))
 
 loop-again : tie.Need-loop-again Inv-loop μ-loop
 loop-again c =
     let p = c .before .before .before .before in
-    let s = p .before .before in
-    let e = sym (c .before .lawful .ensures) ∙ not-false _ (c .if1 .left) in
-    (omega arith, sym (all-turn (lawful 2 (s .args .w)) true (s .args .list .now) (p .loop .i) 0 (omega arith) e) ∙ p .loop .inv .1)
+    let s = p .before .before in (
+      omega arith,
+      all-step (lawful 2 (s .args .w)) (s .args .list .now) (p .loop .i) 0 (p .loop .inv .1) (omega arith)
+          (sym (c .before .lawful .ensures) ∙ not-false _ (c .if1 .left)),
+    )
 
 returns-2 : tie.Need-returns-2 Inv-loop μ-loop
 returns-2 c =
     let p = c .before in
     let s = p .before .before in
-    sym (sym (p .loop .inv .1) ∙ all-done (lawful 2 (s .args .w)) (s .args .list .now) (p .loop .i) (omega arith))
+    all-end (lawful 2 (s .args .w)) (s .args .list .now) (p .loop .i) 0 (p .loop .inv .1) (omega arith)
 
 pub all-lawful-spec : {M : Type 1} → statement M
 all-lawful-spec =
     tie.close
-    (tie.spec
-    Inv-loop
-    μ-loop
-    loop-holds
-    (λ c. search needs)
-    (λ c κs. search needs)
-    returns
-    (λ c. search needs)
-    (λ c. search needs)
-    loop-again
-    returns-2)
+    (tie.spec Inv-loop μ-loop loop-holds (λ c. search needs) (λ c κs. search needs) returns (λ c. search needs) (λ c. search needs)
+    loop-again returns-2)

@@ -11,11 +11,4 @@ returns-2 c = no-part (c .before .before .args .c .now) 3 (c .before .if1 .left)
 
 pub gate-list-spec : {M : Type 1} → statement M
 gate-list-spec =
-    tie.close
-    (tie.spec
-    (λ c. search needs)
-    (λ c. search needs)
-    (λ c. search needs)
-    (λ c. search needs)
-    returns
-    returns-2)
+    tie.close (tie.spec (λ c. search needs) (λ c. search needs) (λ c. search needs) (λ c. search needs) returns returns-2)

@@ -11,11 +11,4 @@ returns-2 c = no-part (c .before .before .args .job .now) 12 (c .before .if1 .le
 
 pub table-spec : {M : Type 1} → statement M
 table-spec =
-    tie.close
-    (tie.spec
-    (λ c. search needs)
-    (λ c. search needs)
-    (λ c. search needs)
-    (λ c. search needs)
-    returns
-    returns-2)
+    tie.close (tie.spec (λ c. search needs) (λ c. search needs) (λ c. search needs) (λ c. search needs) returns returns-2)

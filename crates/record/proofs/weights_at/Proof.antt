@@ -7,4 +7,5 @@ returns c = λ i. record { not = c .before .before .at .ensures i; cnot = c .bef
 
 pub weights-at-spec : {M : Type 1} → statement M
 weights-at-spec =
-    tie.close (tie.spec (λ c κs. search needs) (λ c. search needs) (λ c κs. search needs) (λ c. search needs) (λ c κs. search needs) returns)
+    tie.close (tie.spec (λ c κs. search needs) (λ c. search needs) (λ c κs. search needs) (λ c. search needs)
+    (λ c κs. search needs) returns)

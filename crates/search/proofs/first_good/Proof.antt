@@ -1,53 +1,106 @@
+-- No search where parity rules every list out. Else the tables of gates, prices and durations are lent up to the job's last gate, and what
+-- is handed to the solver poses the job's problem.
 use mathlib.Core.Path.{_≡_, sym, ap, _∙_}
 use Prim.Native.Nat.{ℕ, _≤_}
 use native.Mathlib.Omega.{arith}
 use borrow.Author.Needs.{needs}
-use lib.ListN.{length, take}
+use lib.ListN.{length, take, getD}
 use lib.Seq.{length-take-le}
 use Rattle.gate.specs.Gates.{gatesFor}
+use Rattle.gate.proofs.Tables.{gates-most}
+use Rattle.circuit.specs.declared.Weights.{Weights}
+use Rattle.circuit.specs.Measure.{weightOf}
 use Rattle.record.specs.Jobs.{wires}
-use Rattle.node.proofs.Nodes.{wires-within, gates-most}
+use Rattle.record.proofs.Kept.{wires-within}
+use Rattle.search.specs.Outcomes.{problemOf}
 use Rattle.search.proofs.Answer.{odd-nothing}
+use Rattle.search.proofs.Posed.{Handed, in-range, limited, sliced, posed}
 use Rattle.search.proofs.first_good.Statement.{statement}
 use Rattle.search.proofs.first_good.Tie as tie
 
 returns : tie.Need-returns
 returns c =
     let s = c .before .before .before .before in
-    (c .no-circuit .ensures .0 ∙ sym (odd-nothing (s .args .job .now) (s .pre) (sym (c .before .before .always-none .ensures) ∙ c .before .if1 .taken)), c .no-circuit .ensures .1 .1)
+    let odd = sym (c .before .before .always-none .ensures) ∙ c .before .if1 .taken in
+    (c .nothing .ensures .0 ∙ sym (odd-nothing (s .args .job .now) (s .pre) odd), c .nothing .ensures .1 .1)
 
 -- the widths that a job can have
 width : (c : tie.After-wires) → (3 ≤ c .wires .result) × (c .wires .result ≤ 5)
 width c = let s = c .before .before .before .before in rw (c .wires .ensures .0) (wires-within (s .args .job .now) (s .pre))
 
--- the table is long enough
-long : (c : tie.After-gate-count) → c .gate-count .result ≤ length (c .before .gate-table .result)
-long c =
-    let l : length (c .before .gate-table .result) ≡ 55 = search needs in
+-- every table is as long as the longest one
+few : (c : tie.After-gate-table) → c .before .gate-count .result ≤ 55
+few c =
     let v = width (c .before .before) in
-    omega (arith, c .gate-count .ensures, gates-most (c .before .before .wires .result) (v .0) (v .1))
+    omega (arith, c .before .gate-count .ensures, gates-most (c .before .before .wires .result) (v .0) (v .1))
 
-deepened-requires : tie.Need-deepened-requires
-deepened-requires c κs =
-    let s = c .before .before .before .before .before .before .before in
-    let w = c .before .before .before .wires .ensures .0 in (
-      s .pre,
-      ap (λ (k : ℕ). take k (c .before .before .gate-table .result)) (c .before .gate-count .ensures)
-          ∙ c .before .before .gate-table .ensures
-          ∙ ap (λ (k : ℕ). gatesFor 2 k) w,
-    )
+long-gates : (c : tie.After-gate-table) → c .before .gate-count .result ≤ length (c .gate-table .result)
+long-gates c = let l : length (c .gate-table .result) ≡ 55 = search needs in let h = few c in omega arith
+
+long-prices : (c : tie.After-weigh) → c .before .before .before .before .gate-count .result ≤ length (c .weigh .result)
+long-prices c = let l : length (c .weigh .result) ≡ 55 = search needs in let h = few (c .before .before .before) in omega arith
+
+long-durations : (c : tie.After-weigh2) → c .before .before .before .before .before .before .before .gate-count .result ≤ length (c .weigh2 .result)
+long-durations c = let l : length (c .weigh2 .result) ≡ 55 = search needs in let h = few (c .before .before .before .before .before .before) in omega arith
+
+-- the part of the table that is lent is the job's gates
+listed : (c : tie.After-gate-table) → take (c .before .gate-count .result) (c .gate-table .result) ≡ gatesFor 2 (wires (c .before .before .before .before .before .before .args .job .now))
+listed c =
+    ap (λ (k : ℕ). take k (c .gate-table .result)) (c .before .gate-count .ensures)
+    ∙ c .gate-table .ensures
+    ∙ ap (λ (k : ℕ). gatesFor 2 k) (c .before .before .wires .ensures .0)
+
+lent : (c : tie.After-gate-table) → length (take (c .before .gate-count .result) (c .gate-table .result)) ≡ c .before .gate-count .result
+lent c = length-take-le (c .before .gate-count .result) (c .gate-table .result) (long-gates c)
+
+lent-few : (c : tie.After-gate-table) → length (take (c .before .gate-count .result) (c .gate-table .result)) ≤ 55
+lent-few c = rw (lent c) (few c)
+
+lent-prices : (c : tie.After-weigh) → length (take (c .before .before .before .before .gate-count .result) (c .weigh .result)) ≡ c .before .before .before .before .gate-count .result
+lent-prices c = length-take-le (c .before .before .before .before .gate-count .result) (c .weigh .result) (long-prices c)
+
+lent-durations : (c : tie.After-weigh2) → length (take (c .before .before .before .before .before .before .before .gate-count .result) (c .weigh2 .result)) ≡ c .before .before .before .before .before .before .before .gate-count .result
+lent-durations c = length-take-le (c .before .before .before .before .before .before .before .gate-count .result) (c .weigh2 .result) (long-durations c)
+
+-- what is handed to the solver
+handed : (c : tie.After-task-of)
+    → Handed (c .before .before .before .before .before .before .before .before .before .before .before .before .before .before .before .before .args .job .now) (c .task-of .result)
+    (c .before .before .before .before .before .before .before .before .before .before .gate-table .result)
+    (c .before .before .before .before .before .before .before .weigh .result)
+    (c .before .before .before .before .weigh2 .result)
+    (c .before .before .before .before .before .before .before .before .before .before .before .gate-count .result)
+handed c =
+    let w₂ = c .before .before .before .before in
+    let w₁ = w₂ .before .before .before in
+    let t = w₁ .before .before .before in
+    let weight : ℕ → Weights → ℕ = λ i ws. weightOf ws (getD (take (t .before .gate-count .result) (t .gate-table .result)) i 0) in
+    record {
+      sound = t .before .before .before .before .before .before .pre;
+      tasked = c .task-of .ensures;
+      listed = listed t;
+      long = long-gates t;
+      long-paid = long-prices w₁;
+      long-held = long-durations w₂;
+      priced = λ i h. w₁ .weigh .ensures i h ∙ ap (weight i) (w₁ .before .before .prices .ensures);
+      timed = λ i h. w₂ .weigh2 .ensures i h ∙ ap (weight i) (w₂ .before .before .durations .ensures);
+    }
+
+returns-2 : tie.Need-returns-2
+returns-2 c =
+    let h = handed (c .before) in
+    let s = c .before .before .before .before .before .before .before .before .before .before .before .before .before .before .before .before .before in
+    (c .solve .ensures .0 (problemOf (s .args .job .now)) (posed h) (limited h), c .solve .ensures .1)
 
 pub first-good-spec : {M : Type 1} → statement M
 first-good-spec =
     tie.close
-    (tie.spec
-    (λ c κs. search needs)
-    (λ c κs. search needs)
-    returns
-    (λ c κs. search needs)
-    (λ c κs. width c)
-    (λ c κs. width (c .before))
-    long
-    (λ c. sym (length-take-le (c .before .gate-count .result) (c .before .before .gate-table .result) (long (c .before))))
-    deepened-requires
-    (λ c. search needs))
+    (tie.spec (λ c κs. search needs) (λ c κs. search needs) returns (λ c κs. search needs) (λ c κs. width c) (λ c κs. width (c .before))
+    (λ c κs. search needs) (λ c. long-gates (c .before)) (λ c. sym (lent (c .before .before))) (λ c κs. lent-few (c .before .before))
+    (λ c κs. search needs) (λ c. long-gates (c .before .before .before .before))
+    (λ c. sym (lent (c .before .before .before .before .before))) (λ c κs. lent-few (c .before .before .before .before .before))
+    (λ c. long-gates (c .before .before .before .before .before .before))
+    (λ c. sym (lent (c .before .before .before .before .before .before .before))) (λ c. long-prices (c .before .before .before .before))
+    (λ c. sym (lent-prices (c .before .before .before .before .before))) (λ c. long-durations (c .before .before))
+    (λ c. sym (lent-durations (c .before .before .before)))
+    (λ c κs. c .before .before .before .before .before .before .before .before .before .before .before .before .before .before .before .pre)
+    (λ c κs. (sliced (handed c), in-range (handed c))) returns-2)

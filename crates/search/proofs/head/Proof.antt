@@ -19,11 +19,4 @@ cast-result c = let e = c .ancillas .ensures in record { fits = omega arith }
 pub head-spec : {M : Type 1} → statement M
 head-spec =
     tie.close
-    (tie.spec
-    (λ c κs. search needs)
-    (λ c. search needs)
-    (λ c κs. search needs)
-    mul-result-2
-    add-result
-    cast-result
-    (λ c. search needs))
+    (tie.spec (λ c κs. search needs) (λ c. search needs) (λ c κs. search needs) mul-result-2 add-result cast-result (λ c. search needs))

@@ -9,8 +9,4 @@ returns c = c .clear .ensures ∙ ap (clear (c .before .before .args .d)) (c .be
 
 pub clear-four-spec : {M : Type 1} → statement M
 clear-four-spec =
-    tie.close
-    (tie.spec
-    (λ c κs. search needs)
-    (λ c κs. search needs)
-    returns)
+    tie.close (tie.spec (λ c κs. search needs) (λ c κs. search needs) returns)

@@ -9,8 +9,4 @@ returns c = c .clear .ensures ∙ ap (clear (c .before .before .args .c)) (c .be
 
 pub clear-three-spec : {M : Type 1} → statement M
 clear-three-spec =
-    tie.close
-    (tie.spec
-    (λ c κs. search needs)
-    (λ c κs. search needs)
-    returns)
+    tie.close (tie.spec (λ c κs. search needs) (λ c κs. search needs) returns)

@@ -9,8 +9,4 @@ returns c = c .clear2 .ensures ∙ ap (clear (c .before .before .args .b)) (c .b
 
 pub clear-two-spec : {M : Type 1} → statement M
 clear-two-spec =
-    tie.close
-    (tie.spec
-    (λ c κs. search needs)
-    (λ c κs. search needs)
-    returns)
+    tie.close (tie.spec (λ c κs. search needs) (λ c κs. search needs) returns)

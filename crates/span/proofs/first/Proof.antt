@@ -1,9 +1,9 @@
-use mathlib.Core.Path.{_≡_, ap, sym, _∙_}
+use mathlib.Core.Path.{_≡_, ap, _∙_}
 use mathlib.Core.List.{[], _∷_}
 use borrow.Author.Needs.{needs}
 use lib.ListN.{length}
 use Rattle.span.specs.Span.{first}
-use Rattle.span.proofs.Spelled.{spelled}
+use Rattle.logic.proofs.Members.{spelled}
 use Rattle.span.proofs.first.Statement.{statement}
 use Rattle.span.proofs.first.Tie as tie
 
@@ -13,18 +13,9 @@ returns c =
     let s = c .before .before .before .before in
     let l : length (s .args .t3) ≡ 4 = search needs in
     (λ i. c .before .before .before .pick .ensures i ∷ c .before .before .pick2 .ensures i ∷ c .before .pick3 .ensures i ∷ c .pick4 .ensures i ∷ [])
-    ∙ sym (ap (first 0 (s .args .n) (s .args .d)) (spelled (s .args .t3) 4 l))
+    ∙ ap (first 0 (s .args .n) (s .args .d)) (spelled (s .args .t3) 4 l)
 
 pub first-spec : {M : Type 1} → statement M
 first-spec =
-    tie.close
-    (tie.spec
-    (λ c. search needs)
-    (λ c κs. search needs)
-    (λ c. search needs)
-    (λ c κs. search needs)
-    (λ c. search needs)
-    (λ c κs. search needs)
-    (λ c. search needs)
-    (λ c κs. search needs)
-    returns)
+    tie.close (tie.spec (λ c. search needs) (λ c κs. search needs) (λ c. search needs) (λ c κs. search needs) (λ c. search needs)
+    (λ c κs. search needs) (λ c. search needs) (λ c κs. search needs) returns)

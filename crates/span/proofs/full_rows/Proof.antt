@@ -1,9 +1,9 @@
-use mathlib.Core.Path.{_≡_, sym, ap, _∙_}
+use mathlib.Core.Path.{_≡_, ap, _∙_}
 use lib.Bits.{bitAnd}
 use lib.ListN.{length}
 use Rattle.logic.specs.Lists.{along}
 use Rattle.span.specs.Span.{fullRows}
-use Rattle.span.proofs.Spelled.{spelled}
+use Rattle.logic.proofs.Members.{spelled}
 use borrow.Author.Needs.{needs}
 use Rattle.span.proofs.full_rows.Statement.{statement}
 use Rattle.span.proofs.full_rows.Tie as tie
@@ -12,15 +12,8 @@ returns : tie.Need-returns
 unfolding fullRows along
 returns c =
     let l : length (c .first .result) ≡ 4 = search needs in
-    sym (ap (λ m. along bitAnd m 65535) (spelled (c .first .result) 4 l)) ∙ ap (λ m. along bitAnd m 65535) (c .first .ensures)
+    ap (λ m. along bitAnd m 65535) (spelled (c .first .result) 4 l) ∙ ap (λ m. along bitAnd m 65535) (c .first .ensures)
 
 pub full-rows-spec : {M : Type 1} → statement M
 full-rows-spec =
-    tie.close
-    (tie.spec
-    (λ c κs. search needs)
-    (λ c. search needs)
-    (λ c. search needs)
-    (λ c. search needs)
-    (λ c. search needs)
-    returns)
+    tie.close (tie.spec (λ c κs. search needs) (λ c. search needs) (λ c. search needs) (λ c. search needs) (λ c. search needs) returns)

@@ -1,3 +1,4 @@
+-- Five places, each written after the last: together they are the number.
 use native.Mathlib.Omega.{arith}
 use borrow.Author.Needs.{needs}
 use Rattle.text.specs.Text.{decimal}
@@ -22,7 +23,8 @@ put-place-requires-4 c κs =
 
 put-requires : tie.Need-put-requires
 put-requires c κs =
-    let s = c .before .before .before .before .before .before .before .before .before .before .before .before .before .before .before .before .before .before in
+    let half = c .before .before .before .before .before .before .before .before .before in
+    let s = half .before .before .before .before .before .before .before .before .before in
     omega (arith, place-short (s .args .n) 10000, place-short (s .args .n) 1000, place-short (s .args .n) 100, place-short (s .args .n) 10)
 
 returns : tie.Need-returns
@@ -33,18 +35,11 @@ returns c =
     let b = d .before .before .before .before in
     let a = b .before .before .before .before in
     let w = a .before .before .before .before in
-    more (w .put-place .ensures) (more (a .put-place2 .ensures) (more (b .put-place3 .ensures) (more (d .put-place4 .ensures) (e .put .ensures))))
+    more (w .put-place .ensures)
+    (more (a .put-place2 .ensures) (more (b .put-place3 .ensures) (more (d .put-place4 .ensures) (e .put .ensures))))
 
 pub put-decimal-spec : {M : Type 1} → statement M
 put-decimal-spec =
     tie.close
-    (tie.spec
-    (λ c κs. search needs)
-    put-place-requires-2
-    put-place-requires-3
-    put-place-requires-4
-    (λ c. search needs)
-    (λ c. search needs)
-    put-requires
-    (λ c. search needs)
-    returns)
+    (tie.spec (λ c κs. search needs) put-place-requires-2 put-place-requires-3 put-place-requires-4 (λ c. search needs) (λ c. search needs)
+    put-requires (λ c. search needs) returns)

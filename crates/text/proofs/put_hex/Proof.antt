@@ -1,3 +1,5 @@
+-- Bytes are written as two digits, one by one. Invariant: the digits from byte k on, laid over the buffer at hand, give all of them laid
+-- over the first one.
 use mathlib.Core.Path.{_≡_, refl, sym, ap, _∙_}
 use Prim.Native.Nat.{ℕ, _+_, _*_, _≤_, _-_}
 use native.Mathlib.Omega.{arith}
@@ -10,7 +12,8 @@ use Rattle.text.proofs.put_hex.Statement.{statement}
 use Rattle.text.proofs.put_hex.Tie as tie
 
 abbrev Inv-loop : tie.InvT-loop
-Inv-loop out₀ i bytes k₀ out k = (k ≤ length bytes) × (length out ≡ length out₀) × (over out (i + 2 * k) (hexOf (drop k bytes)) ≡ over out₀ i (hexOf bytes))
+Inv-loop out₀ i bytes k₀ out k =
+    (k ≤ length bytes) × (length out ≡ length out₀) × (over out (i + 2 * k) (hexOf (drop k bytes)) ≡ over out₀ i (hexOf bytes))
 
 abbrev μ-loop : tie.MeasureT-loop
 μ-loop out₀ i bytes k₀ out k = length bytes - k
@@ -33,7 +36,8 @@ loop-again c =
     let a = c .before .before .before .before .before .before .before .before .args in (
       omega arith,
       simp length-set (l .inv .1),
-      rw (c .before .before .hex-digit .ensures, c .hex-digit2 .ensures) (hex-more (l .out) (a .bytes .now) (a .i) (l .k) (omega arith) ∙ l .inv .2),
+      rw (c .before .before .hex-digit .ensures, c .hex-digit2 .ensures)
+          (hex-more (l .out) (a .bytes .now) (a .i) (l .k) (omega arith) ∙ l .inv .2),
     )
 
 returns : tie.Need-returns Inv-loop μ-loop
@@ -47,26 +51,7 @@ returns c =
 
 pub put-hex-spec : {M : Type 1} → statement M
 put-hex-spec =
-    tie.close
-    (tie.spec
-    Inv-loop
-    μ-loop
-    loop-holds
-    (λ c. search needs)
-    hex-digit-requires
-    (λ c. search needs)
-    (λ c κs. search needs)
-    (λ c. search needs)
-    (λ c. search needs)
-    (λ c. search needs)
-    (λ c. search needs)
-    (λ c. search needs)
-    (λ c. search needs)
-    slice-write-out-2
-    (λ c. search needs)
-    (λ c. search needs)
-    loop-again
-    (λ c. search needs)
-    (λ c. search needs)
-    (λ c. search needs)
+    tie.close (tie.spec Inv-loop μ-loop loop-holds (λ c. search needs) hex-digit-requires (λ c. search needs) (λ c κs. search needs)
+    (λ c. search needs) (λ c. search needs) (λ c. search needs) (λ c. search needs) (λ c. search needs) (λ c. search needs)
+    slice-write-out-2 (λ c. search needs) (λ c. search needs) loop-again (λ c. search needs) (λ c. search needs) (λ c. search needs)
     returns)

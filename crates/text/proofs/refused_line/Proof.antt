@@ -1,8 +1,9 @@
+-- Three pieces, each written after the last: together they are the line, and the rest of the buffer stays.
 use native.Mathlib.Omega.{arith}
 use borrow.Author.Needs.{needs}
 use Rattle.text.specs.Text.{refusedLine}
 use Rattle.text.specs.Writing.{Wrote}
-use Rattle.text.proofs.Pieces.{more, line-size, line-placed, decimal-short, refused-short}
+use Rattle.text.proofs.Pieces.{more, line-size, line-in-front, decimal-short, refused-short}
 use Rattle.text.proofs.refused_line.Statement.{statement}
 use Rattle.text.proofs.refused_line.Tie as tie
 
@@ -16,7 +17,8 @@ start c = c .before .before .before .before .before .before .before .before .bef
 
 -- the whole line, as one piece
 whole : (c : tie.After-slice-known4)
-    → Wrote (start c .args .out .now) 0 (refusedLine (start c .args .code)) (c .before .before .put .last .0) (c .before .before .put .result)
+    → Wrote (start c .args .out .now) 0 (refusedLine (start c .args .code)) (c .before .before .put .last .0)
+    (c .before .before .put .result)
 unfolding refusedLine
 whole c =
     let e = c .before .before in
@@ -28,15 +30,8 @@ returns : tie.Need-returns
 returns c =
     let s = start c in
     let w = whole c in
-    (line-size w, line-placed w (omega (arith, refused-short (s .args .code))))
+    (line-size w, line-in-front w (omega (arith, refused-short (s .args .code))))
 
 pub refused-line-spec : {M : Type 1} → statement M
 refused-line-spec =
-    tie.close
-    (tie.spec
-    (λ c. search needs)
-    (λ c κs. search needs)
-    (λ c κs. search needs)
-    put-requires
-    (λ c. search needs)
-    returns)
+    tie.close (tie.spec (λ c. search needs) (λ c κs. search needs) (λ c κs. search needs) put-requires (λ c. search needs) returns)

@@ -11,11 +11,5 @@ slice-aggregate-search-whole c =
 
 pub search-into-spec : {M : Type 1} → statement M
 search-into-spec =
-    tie.close
-    (tie.spec
-    (λ c. search needs)
-    slice-aggregate-search-whole
-    (λ c κs. search needs)
-    (λ c. search needs)
-    (λ c. search needs)
+    tie.close (tie.spec (λ c. search needs) slice-aggregate-search-whole (λ c κs. search needs) (λ c. search needs) (λ c. search needs)
     (λ c. search needs))

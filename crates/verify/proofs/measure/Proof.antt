@@ -1,14 +1,15 @@
-use mathlib.Core.Path.{ap, sym, _∙_}
+use mathlib.Core.Path.{sym, _∙_, ap}
 use borrow.Author.Tests.{ne-eqb}
 use borrow.Author.Needs.{needs}
-use Rattle.verify.specs.Calls.{measuredCode, measureOf}
+use Rattle.logic.specs.Answers.{answered}
+use Rattle.verify.specs.Calls.{measureOf}
 use Rattle.verify.proofs.Codes.{measure-parts}
 use Rattle.verify.proofs.measure.Statement.{statement}
 use Rattle.verify.proofs.measure.Tie as tie
 
 returns : tie.Need-returns
 unfolding measureOf
-returns c = (rw (← c .before .measure-code .ensures, ne-eqb _ _ (c .if1 .taken)), c .before .measure-code .ensures)
+returns c = rw (← c .before .measure-code .ensures, ne-eqb _ _ (c .if1 .taken))
 
 measures-for-requires : tie.Need-measures-for-requires
 measures-for-requires c κs =
@@ -17,9 +18,7 @@ measures-for-requires c κs =
 
 returns-2 : tie.Need-returns-2
 unfolding measureOf
-returns-2 c =
-    let e = sym (c .before .before .measure-code .ensures) ∙ c .before .if1 .left in
-    (rw e (c .measures-for .ensures), ap measuredCode (c .measures-for .ensures) ∙ sym e)
+returns-2 c = rw (sym (c .before .before .measure-code .ensures) ∙ c .before .if1 .left) (ap answered (c .measures-for .ensures))
 
 pub measure-spec : {M : Type 1} → statement M
 measure-spec = tie.close (tie.spec (λ c κs. search needs) returns measures-for-requires returns-2)

@@ -10,7 +10,11 @@ returns : tie.Need-returns
 unfolding measuresOf
 returns c =
     let s = c .before .before in
-    λ i. record { gates = length (s .before .before .args .list .now); cost = s .cost .ensures i; depth = (c .latest .ensures ∙ ap greatest (c .before .ready-times .ensures)) i }
+    λ i. record {
+      gates = length (s .before .before .args .list .now);
+      cost = s .cost .ensures i;
+      depth = (c .latest .ensures ∙ ap greatest (c .before .ready-times .ensures)) i;
+    }
 
 pub measure-list-spec : {M : Type 1} → statement M
 measure-list-spec =

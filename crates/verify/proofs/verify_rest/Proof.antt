@@ -1,46 +1,34 @@
-use mathlib.Core.Path.{_∙_, ap, ap₂}
-use native.Mathlib.Omega.{arith}
+-- Each rule is what its function answers, so the chain in the code is the chain in the definition.
+use mathlib.Core.Path.{_∙_}
 use borrow.Author.Needs.{needs}
-use lib.ListN.{length}
 use Rattle.logic.specs.Rules.{rule}
+use Rattle.circuit.specs.Run.{forwards}
+use Rattle.table.specs.Layouts.{allowed}
+use Rattle.table.specs.Rows.{agrees}
 use Rattle.record.proofs.Kept.{sound-job}
-use Rattle.verify.specs.Realize.{realizes, allowed}
-use Rattle.verify.specs.Calls.{limitsCode, verifyRest}
-use Rattle.verify.proofs.Codes.{gates-few}
+use Rattle.verify.specs.Calls.{verifyRest}
 use Rattle.verify.proofs.verify_rest.Statement.{statement}
 use Rattle.verify.proofs.verify_rest.Tie as tie
-
-limits-code-requires : tie.Need-limits-code-requires
-limits-code-requires c κs =
-    let s = c .before .before .before .before .before .before in
-    omega (arith, gates-few (s .args .c .now) (s .pre .1), ap length (c .gate-list2 .ensures))
 
 allowed-requires : tie.Need-allowed-requires
 allowed-requires c κs =
     let s = c .before .before .before .before .before .before .before .before in
-    sound-job (s .args .job .now) (s .pre .0) .width
+    rw (c .before .data-wires .ensures .0) (sound-job (s .args .job .now) (s .pre .0) .width)
 
 returns : tie.Need-returns
 unfolding verifyRest
 returns c =
-    let s = c .before .before .before .before .before in
-    let job = s .before .before .before .before .before .args .job .now in
-    let p = s .before .before .layout-of .ensures in
-    let met = s .realizes .ensures ∙ ap₂ (realizes job) p (s .before .gate-list .ensures) in
-    let within = c .before .before .before .limits-code .ensures ∙ ap (limitsCode job) (c .before .before .before .before .gate-list2 .ensures) in
-    let rest = c .before .before .rule .ensures ∙ (λ i. rule (met i) 16 (within i)) in
-    c .rule2 .ensures ∙ (λ i. rule ((c .before .allowed .ensures ∙ ap (allowed job) p) i) 15 (rest i))
+    let f = c .before .before .before .before in
+    let a = f .before .before in
+    let l = a .before .before in
+    let p = l .before .layout-of .ensures in
+    let agreed = a .agrees .ensures ∙ (λ i. agrees (p i) (forwards (l .gate-list .ensures i)) (a .before .table .ensures i)) in
+    let laid = c .before .before .before .allowed .ensures
+    ∙ (λ i. allowed (f .before .data-wires .ensures .0 i) (f .free-layout .ensures i) (p i)) in
+    let rest = c .before .rule .ensures ∙ (λ i. rule (agreed i) 16 (c .before .before .limits-code .ensures i)) in
+    c .rule2 .ensures ∙ (λ i. rule (laid i) 15 (rest i))
 
 pub verify-rest-spec : {M : Type 1} → statement M
 verify-rest-spec =
-    tie.close
-    (tie.spec
-    (λ c κs. search needs)
-    (λ c κs. search needs)
-    (λ c κs. search needs)
-    (λ c κs. search needs)
-    limits-code-requires
-    (λ c κs. search needs)
-    allowed-requires
-    (λ c κs. search needs)
-    returns)
+    tie.close (tie.spec (λ c κs. search needs) (λ c κs. search needs) (λ c κs. search needs) (λ c κs. search needs) (λ c κs. search needs)
+    (λ c κs. search needs) allowed-requires (λ c κs. search needs) (λ c κs. search needs) (λ c κs. search needs) returns)

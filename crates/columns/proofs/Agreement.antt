@@ -1,0 +1,105 @@
+-- The whole-column test is the row-by-row test: columns have every wanted bit of a table exactly when the list agrees with its rows.
+use mathlib.Core.Path.{_≡_, refl, sym, ap, ap₂, _∙_}
+use mathlib.Core.Bool.{Bool, true, false}
+use mathlib.Core.List.{List}
+use Prim.Native.Nat.{ℕ, zero, suc, _^_, _≤_, _<_}
+use native.Mathlib.Nat.{lt-of-le-of-lt, zero-add, zero-div}
+use native.Mathlib.Omega.{arith}
+use borrow.Author.Tests.{eqb-true, eq-eqb}
+use lib.Bits.{bitAnd, bitXor, and-le-r}
+use lib.Dec.{eqb}
+use lib.ListN.{length, getD}
+use Rattle.logic.specs.Rules.{both, implies, allBelow}
+use Rattle.logic.specs.Lists.{allOf}
+use Rattle.logic.specs.Bit.{bitOf}
+use Rattle.logic.proofs.Chain.{both-parts, implied}
+use Rattle.logic.proofs.Below.{below}
+use Rattle.logic.proofs.Counts.{same-truth, all-below}
+use Rattle.logic.proofs.Bits.{bit-xor, bit-and, zero-bits}
+use Rattle.gate.specs.Gates.{lawful}
+use Rattle.circuit.specs.Run.{forwards}
+use Rattle.circuit.specs.Inner.{columnsAfter}
+use Rattle.circuit.proofs.Reversal.{rows-run}
+use Rattle.table.specs.Layouts.{wireOf}
+use Rattle.table.specs.Rows.{careOf, valueOf, bitAgrees, rowAgrees, agrees}
+use Rattle.table.proofs.Rows.{agrees-at, agrees-all}
+use Rattle.columns.specs.Wanted.{columnOf, rowBit, columnsOf, wantedOf, startColumns, misses, fits, met}
+use Rattle.columns.proofs.Bits.{column-bit, column-lt, row-bit-lt, start-row}
+
+columns-at : (care : Bool) (table : List ℕ) (j : ℕ) → j < 4 → getD (columnsOf care table) j 0 ≡ columnOf (rowBit care j) table
+unfolding columnsOf
+columns-at care table zero h = refl
+columns-at care table (suc zero) h = refl
+columns-at care table (suc (suc zero)) h = refl
+columns-at care table (suc (suc (suc zero))) h = refl
+columns-at care table (suc (suc (suc (suc j)))) h = absurd (omega arith)
+
+-- one bit of the test: computed for all bits
+abbrev test : ℕ → ℕ → ℕ → Bool
+test a b c = eqb (bitAnd (bitXor a b) c) 0
+
+abbrev rule : ℕ → ℕ → ℕ → Bool
+rule a b c = implies (eqb c 1) (eqb a b)
+
+abbrev same₁ : ℕ → ℕ → ℕ → Bool
+same₁ a b c = both (implies (test a b c) (rule a b c)) (implies (rule a b c) (test a b c))
+
+abbrev same₂ : ℕ → ℕ → Bool
+same₂ a b = allBelow 2 (same₁ a b)
+
+abbrev same₃ : ℕ → Bool
+same₃ a = allBelow 2 (same₂ a)
+
+clear : (a b c : ℕ) → a < 2 → b < 2 → c < 2 → test a b c ≡ rule a b c
+clear a b c ha hb hc =
+    let s = both-parts (implies (test a b c) (rule a b c)) (implies (rule a b c) (test a b c)) (below 2 (same₁ a b) (below 2 (same₂ a) (below 2 same₃ refl a ha) b hb) c hc) in
+    same-truth (test a b c) (rule a b c) (implied (test a b c) (rule a b c) (s .0)) (implied (rule a b c) (test a b c) (s .1))
+
+module _ (rows gs : List ℕ) (few : length rows ≤ 16) (hg : allOf (lawful 2 5) gs ≡ true) (p : ℕ) where
+  wanted-bit : (care : Bool) (j x : ℕ) → j < 4 → x < length rows → bitOf x (getD (columnsOf care rows) j 0) ≡ rowBit care j (getD rows x 0)
+  wanted-bit care j x h l = ap (bitOf x) (columns-at care rows j h) ∙ column-bit (rowBit care j) (row-bit-lt care j) rows x l
+
+  wire-bit : (w x : ℕ) → w < 5 → x < length rows → bitOf x (getD (columnsAfter gs startColumns) w 0) ≡ bitOf w (forwards gs x)
+  unfolding startColumns
+  wire-bit w x hw hx = rows-run gs startColumns x x hg refl (omega arith) (omega arith) (start-row x (omega arith)) w hw
+
+  module _ (j : ℕ) (h : j < 4) where
+    abbrev missing : ℕ
+    missing = misses (wantedOf rows) (getD (columnsAfter gs startColumns) (wireOf p j) 0) j
+
+    miss-bit : (x : ℕ) → x < length rows → eqb (bitOf x missing) 0 ≡ bitAgrees p (getD rows x 0) (forwards gs x) j
+    unfolding misses wantedOf bitAgrees rowBit
+    miss-bit x l =
+        let row = getD rows x 0 in
+        let c = getD (columnsAfter gs startColumns) (wireOf p j) 0 in
+        let v = getD (columnsOf false rows) j 0 in
+        let m = getD (columnsOf true rows) j 0 in
+        ap (λ n. eqb n 0)
+        (bit-and x (bitXor c v) m
+        ∙ ap₂ bitAnd (bit-xor x c v ∙ ap₂ bitXor (wire-bit (wireOf p j) x (omega arith) l) (wanted-bit false j x h l)) (wanted-bit true j x h l))
+        ∙ clear (bitOf (wireOf p j) (forwards gs x)) (bitOf j (valueOf row)) (bitOf j (careOf row)) (omega arith) (omega arith) (omega arith)
+
+    miss-lt : missing < 2 ^ length rows
+    unfolding misses wantedOf
+    miss-lt =
+        let c = getD (columnsAfter gs startColumns) (wireOf p j) 0 in
+        let v = getD (columnsOf false rows) j 0 in
+        lt-of-le-of-lt (and-le-r (bitXor c v) (getD (columnsOf true rows) j 0))
+        (rw (columns-at true rows j h) (column-lt (rowBit true j) (row-bit-lt true j) rows))
+
+    fits-agrees : fits (wantedOf rows) (columnsAfter gs startColumns) p j ≡ true → (x : ℕ) → x < length rows → bitAgrees p (getD rows x 0) (forwards gs x) j ≡ true
+    fits-agrees t x l = sym (miss-bit x l) ∙ eq-eqb (bitOf x missing) 0 (rw (eqb-true missing 0 t, zero-div (2 ^ x)))
+
+    agrees-fits : ((x : ℕ) → x < length rows → bitAgrees p (getD rows x 0) (forwards gs x) j ≡ true) → fits (wantedOf rows) (columnsAfter gs startColumns) p j ≡ true
+    agrees-fits a = eq-eqb missing 0 (zero-bits (length rows) missing miss-lt (λ x l. eqb-true (bitOf x missing) 0 (miss-bit x l ∙ a x l)))
+
+  pub met-agrees : met (wantedOf rows) (columnsAfter gs startColumns) p ≡ agrees p (forwards gs) rows
+  unfolding met rowAgrees
+  met-agrees =
+      same-truth (met (wantedOf rows) (columnsAfter gs startColumns) p) (agrees p (forwards gs) rows)
+      (λ t. agrees-all p (forwards gs) 0 rows
+      (λ x l. rw (zero-add x) (all-below (bitAgrees p (getD rows x 0) (forwards gs x)) 4
+      (λ j h. fits-agrees j h (below 4 (fits (wantedOf rows) (columnsAfter gs startColumns) p) t j h) x l))))
+      (λ t. all-below (fits (wantedOf rows) (columnsAfter gs startColumns) p) 4
+      (λ j h. agrees-fits j h
+      (λ x l. below 4 (bitAgrees p (getD rows x 0) (forwards gs x)) (rw (zero-add x) at (agrees-at p (forwards gs) rows 0 x t l)) j h)))

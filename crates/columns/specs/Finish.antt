@@ -1,0 +1,21 @@
+-- A way to finish: what the bounds of a search speak of.
+use mathlib.Core.Path.{_≡_}
+use mathlib.Core.Bool.{true}
+use mathlib.Core.List.{List, List·Memᴰ}
+use Prim.Native.Nat.{ℕ}
+use lib.ListN.{length}
+use Rattle.logic.specs.Lists.{allOf}
+use Rattle.gate.specs.Gates.{lawful}
+use Rattle.circuit.specs.Inner.{columnsAfter}
+use Rattle.table.specs.Layouts.{Width, layoutsFor}
+use Rattle.columns.specs.declared.Wanted.{Wanted}
+use Rattle.columns.specs.Wanted.{met}
+
+-- a list of gates with at most k controls leads from these columns to columns that meet the wanted ones of n outputs under an allowed layout
+pub record Finish (k : ℕ) (t : Wanted) (n free : ℕ) (cs e : List ℕ) (p : ℕ) : Type 0 where
+  pub width : Width n
+  pub four : length (t .care) ≡ 4
+  pub five : length cs ≡ 5
+  pub kept : allOf (lawful k 5) e ≡ true
+  pub laid : List·Memᴰ p (layoutsFor n free)
+  pub meets : met t (columnsAfter e cs) p ≡ true

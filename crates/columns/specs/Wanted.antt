@@ -1,0 +1,51 @@
+-- A table as bit-sliced columns: bit x of a column speaks of row x.
+use mathlib.Core.Bool.{Bool, true, false}
+use mathlib.Core.List.{List, [], _∷_}
+use Prim.Native.Nat.{ℕ, _+_, _*_}
+use lib.Bits.{bitAnd, bitXor}
+use lib.Dec.{eqb}
+use lib.ListN.{getD}
+use Rattle.logic.specs.Rules.{pick, allBelow}
+use Rattle.logic.specs.Lists.{back}
+use Rattle.logic.specs.Bit.{bitOf}
+use Rattle.table.specs.Layouts.{wireOf}
+use Rattle.table.specs.Rows.{careOf, valueOf}
+use Rattle.columns.specs.declared.Wanted.{Wanted}
+
+-- the column whose bit x is f of row x, where f gives bits
+abbrev pub shiftIn : (ℕ → ℕ) → ℕ → ℕ → ℕ
+shiftIn f row column = f row + 2 * column
+
+abbrev pub columnOf : (ℕ → ℕ) → List ℕ → ℕ
+columnOf f rows = back (shiftIn f) rows 0
+
+-- bit j of a row's care mask or of its value
+unfoldable pub rowBit : Bool → ℕ → ℕ → ℕ
+rowBit care j row = bitOf j (pick care (careOf row) (valueOf row))
+
+unfoldable pub columnsOf : Bool → List ℕ → List ℕ
+columnsOf care rows =
+    columnOf (rowBit care 0) rows ∷ columnOf (rowBit care 1) rows ∷ columnOf (rowBit care 2) rows ∷ columnOf (rowBit care 3) rows ∷ []
+
+-- the care and value columns of the four outputs
+unfoldable pub wantedOf : List ℕ → Wanted
+wantedOf rows = record { care = columnsOf true rows; value = columnsOf false rows }
+
+-- row x starts with the value x: bit x of column w is bit w of x
+unfoldable pub startColumns : List ℕ
+startColumns = 43690 ∷ 52428 ∷ 61680 ∷ 65280 ∷ 0 ∷ []
+
+-- the rows in which a column is not what they want of output j
+unfoldable pub misses : Wanted → ℕ → ℕ → ℕ
+misses t column j = bitAnd (bitXor column (getD (t .value) j 0)) (getD (t .care) j 0)
+
+-- the column has every bit that the rows want of output j
+abbrev pub fitting : Wanted → ℕ → ℕ → Bool
+fitting t column j = eqb (misses t column j) 0
+
+-- every output is what the rows want, on the wire laid out for it
+abbrev pub fits : Wanted → List ℕ → ℕ → ℕ → Bool
+fits t cs p j = fitting t (getD cs (wireOf p j) 0) j
+
+unfoldable pub met : Wanted → List ℕ → ℕ → Bool
+met t cs p = allBelow 4 (fits t cs p)

@@ -1,0 +1,5 @@
+pub mod Few
+pub mod Skips
+pub mod Unfinished
+pub mod Planned
+pub mod Joined

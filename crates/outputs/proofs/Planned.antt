@@ -1,0 +1,326 @@
+-- What the table of products and the plan's digits hold, read back at a place.
+use mathlib.Core.Path.{_≡_, refl, sym, ap, ap₂, _∙_}
+use mathlib.Core.Logic.{⊎-elim}
+use mathlib.Core.Bool.{Bool, true, false, not}
+use mathlib.Core.List.{List, [], _∷_, _++_, map}
+use Prim.Native.Nat.{ℕ, zero, suc, _+_, _*_, _/_, _%_, _^_, _≤_, _<_}
+use native.Mathlib.Omega.{arith}
+use native.Mathlib.Nat.{zero-add}
+use native.Mathlib.Decide.{decLt}
+use borrow.Author.Tests.{eq-eqb, ne-eqb, le-leb, lt-ltb, le-ltb}
+use lib.Bits.{bitXor}
+use lib.Count.{ones, onesIn, trailingZeros, leadingZeros}
+use lib.Dec.{eqb, ltb, leb, lit<}
+use lib.ListN.{length, getD, List·getD-append, List·getD-map}
+use lib.Seq.{getD-set-same}
+use Rattle.logic.specs.Rules.{both, either, pick, bit, allBelow, someBelow}
+use Rattle.logic.specs.Lists.{keepOnly, numbersFrom}
+use Rattle.logic.proofs.Counts.{bit-le, count-le}
+use Rattle.logic.proofs.Members.{numbers-at}
+use Rattle.logic.proofs.Bits.{shifted-one}
+use Rattle.logic.proofs.Chain.{either-none}
+use Rattle.gate.specs.Gates.{targetOf, maskOf, kindFor, lawful, gateOf}
+use Rattle.gate.specs.Inner.{firing, columnStep}
+use Rattle.gate.proofs.Widen.{parts}
+use Rattle.table.specs.Layouts.{Width}
+use Rattle.columns.specs.declared.Wanted.{Wanted}
+use Rattle.columns.specs.Wanted.{misses, fitting}
+use Rattle.outputs.specs.declared.Plan.{Plan}
+use Rattle.outputs.specs.Owed.{missed, alone, owed, lost, mends, worth, product}
+use Rattle.outputs.specs.Inner.{productsOf, four, tableOf, digits, aloneBit, setOf, planOf, packed, hasOutput, hasOne, mendsBy, placesOf, spreadOf, spotsOf}
+
+-- what holds at each number below five holds at any
+by-five : (P : ℕ → Type 0) → P 0 → P 1 → P 2 → P 3 → P 4 → (w : ℕ) → w < 5 → P w
+by-five P a b c d e zero h = a
+by-five P a b c d e (suc zero) h = b
+by-five P a b c d e (suc (suc zero)) h = c
+by-five P a b c d e (suc (suc (suc zero))) h = d
+by-five P a b c d e (suc (suc (suc (suc zero)))) h = e
+by-five P a b c d e (suc (suc (suc (suc (suc w))))) h = absurd (omega arith)
+
+digit : (f : ℕ → ℕ) (w : ℕ) → w < 5 → ((i : ℕ) → i < 5 → f i < 16) → digits f / 2 ^ (4 * w) % 16 ≡ f w
+digit f w h l =
+    let l₀ = l 0 (lit< tt) in
+    let l₁ = l 1 (lit< tt) in
+    let l₂ = l 2 (lit< tt) in
+    let l₃ = l 3 (lit< tt) in
+    let l₄ = l 4 (lit< tt) in
+    by-five (λ i. digits f / 2 ^ (4 * i) % 16 ≡ f i) (omega arith) (omega arith) (omega arith) (omega arith) (omega arith) w h
+
+module _ (t : Wanted) (cs : List ℕ) where
+  product-at : (m : ℕ) → m < 32 → getD (tableOf t cs) m 0 ≡ product cs m
+  unfolding tableOf ones onesIn
+  product-at m h =
+      List·getD-append (map (product cs) (numbersFrom 0 32)) (four (t .value) ++ four (t .care)) 0 m h
+      ∙ List·getD-map (product cs) (numbersFrom 0 32) m 7
+      ∙ ap (product cs) (numbers-at 32 0 m 7 h ∙ zero-add m)
+
+  product-few : (m : ℕ) → m < 32 → ones m ≤ 2 → getD (tableOf t cs) m 0 ≡ firing (kindFor (ones m) m) cs
+  product-few m h l = product-at m h ∙ rw (le-leb (ones m) 2 l)
+
+  column-at : (w : ℕ) → w < 5 → getD (tableOf t cs) (2 ^ w) 0 ≡ getD cs w 0
+  unfolding tableOf ones onesIn trailingZeros leadingZeros
+  column-at = by-five (λ w. getD (tableOf t cs) (2 ^ w) 0 ≡ getD cs w 0) refl refl refl refl refl
+
+  -- the target's column after a gate
+  next-column : (g : ℕ) → lawful 2 5 g ≡ true → length cs ≡ 5
+      → bitXor (getD (tableOf t cs) (2 ^ targetOf g) 0) (getD (tableOf t cs) (maskOf g) 0) ≡ getD (columnStep (gateOf g) cs) (targetOf g) 0
+  unfolding columnStep gateOf
+  next-column g h l =
+      let p = parts 2 5 g h in
+      let ht : targetOf g < 5 = p .target in
+      ap₂ bitXor (column-at (targetOf g) ht) (product-few (maskOf g) (omega arith) (p .few))
+      ∙ sym (getD-set-same cs (targetOf g) (bitXor (getD cs (targetOf g) 0) (firing (gateOf g .kind) cs)) 0 (omega arith))
+
+-- the products of few wires, each at the place of its mask, and the wanted columns
+abbrev pub atMasks : List ℕ → List ℕ → List ℕ → List ℕ
+atMasks ps value care =
+    getD ps 0 0 ∷ getD ps 1 0 ∷ getD ps 2 0 ∷ getD ps 3 0 ∷ getD ps 4 0 ∷ getD ps 5 0 ∷ getD ps 6 0 ∷ 0 ∷
+    getD ps 7 0 ∷ getD ps 8 0 ∷ getD ps 9 0 ∷ 0 ∷ getD ps 10 0 ∷ 0 ∷ 0 ∷ 0 ∷
+    getD ps 11 0 ∷ getD ps 12 0 ∷ getD ps 13 0 ∷ 0 ∷ getD ps 14 0 ∷ 0 ∷ 0 ∷ 0 ∷
+    getD ps 15 0 ∷ 0 ∷ 0 ∷ 0 ∷ 0 ∷ 0 ∷ 0 ∷ 0 ∷
+    getD value 0 0 ∷ getD value 1 0 ∷ getD value 2 0 ∷ getD value 3 0 ∷ getD care 0 0 ∷ getD care 1 0 ∷ getD care 2 0 ∷ getD care 3 0 ∷ []
+
+-- the masks of at most two wires
+abbrev pub fewWires : List ℕ
+fewWires = 0 ∷ 1 ∷ 2 ∷ 3 ∷ 4 ∷ 5 ∷ 6 ∷ 8 ∷ 9 ∷ 10 ∷ 12 ∷ 16 ∷ 17 ∷ 18 ∷ 20 ∷ 24 ∷ []
+
+pub few-wires : keepOnly (λ m. leb (ones m) 2) (numbersFrom 0 32) ≡ fewWires
+unfolding ones onesIn
+few-wires = refl
+
+few-at-masks : (t : Wanted) (cs : List ℕ) → atMasks (map (product cs) fewWires) (t .value) (t .care) ≡ tableOf t cs
+unfolding tableOf ones onesIn trailingZeros leadingZeros
+few-at-masks t cs = refl
+
+pub at-masks : (t : Wanted) (cs : List ℕ) → atMasks (productsOf cs) (t .value) (t .care) ≡ tableOf t cs
+unfolding productsOf
+at-masks t cs = ap (λ ms. atMasks (map (product cs) ms) (t .value) (t .care)) few-wires ∙ few-at-masks t cs
+
+bit-one : (b : Bool) → eqb (bit b) 1 ≡ b
+bit-one true = refl
+bit-one false = refl
+
+-- four bits as a number, read back
+module _ (a b c d : Bool) where
+  abbrev set : ℕ
+  set = bit a + 2 * bit b + 4 * bit c + 8 * bit d
+
+  set-lt : set < 16
+  set-lt = omega (arith, bit-le a, bit-le b, bit-le c, bit-le d)
+
+  bit-0 : eqb (set / 2 ^ 0 % 2) 1 ≡ a
+  bit-0 = let e : set / 1 % 2 ≡ bit a = omega (arith, bit-le a) in ap (λ x. eqb x 1) e ∙ bit-one a
+
+  bit-1 : eqb (set / 2 % 2) 1 ≡ b
+  bit-1 = let e : set / 2 % 2 ≡ bit b = omega (arith, bit-le a, bit-le b) in ap (λ x. eqb x 1) e ∙ bit-one b
+
+  bit-2 : eqb (set / 4 % 2) 1 ≡ c
+  bit-2 = let e : set / 4 % 2 ≡ bit c = omega (arith, bit-le a, bit-le b, bit-le c) in ap (λ x. eqb x 1) e ∙ bit-one c
+
+  bit-3 : eqb (set / 8 % 2) 1 ≡ d
+  bit-3 = let e : set / 8 % 2 ≡ bit d = omega (arith, bit-le a, bit-le b, bit-le c, bit-le d) in ap (λ x. eqb x 1) e ∙ bit-one d
+
+  chosen : (p q r s : Bool)
+      → either (both (eqb (set / 8 % 2) 1) s) (either (both (eqb (set / 4 % 2) 1) r) (either (both (eqb (set / 2 % 2) 1) q) (both (eqb (set / 2 ^ 0 % 2) 1) p)))
+      ≡ either (both d s) (either (both c r) (either (both b q) (either (both a p) false)))
+  chosen p q r s =
+      ap₂ either (ap (λ x. both x s) bit-3)
+      (ap₂ either (ap (λ x. both x r) bit-2)
+      (ap₂ either (ap (λ x. both x q) bit-1)
+      (ap (λ x. both x p) bit-0 ∙ either-none (both a p))))
+
+module _ (t : Wanted) (cs : List ℕ) (free w column : ℕ) where
+  one-of-three : hasOne (tableOf t cs) column (setOf t cs 3 free w) ≡ someBelow 3 (λ j. both (alone t cs 3 free w j) (fitting t column j))
+  unfolding hasOne hasOutput setOf misses tableOf ones onesIn trailingZeros leadingZeros
+  one-of-three =
+      chosen (alone t cs 3 free w 0) (alone t cs 3 free w 1) (alone t cs 3 free w 2) false
+      (fitting t column 0) (fitting t column 1) (fitting t column 2) (fitting t column 3)
+
+  one-of-four : hasOne (tableOf t cs) column (setOf t cs 4 free w) ≡ someBelow 4 (λ j. both (alone t cs 4 free w j) (fitting t column j))
+  unfolding hasOne hasOutput setOf misses tableOf ones onesIn trailingZeros leadingZeros
+  one-of-four =
+      chosen (alone t cs 4 free w 0) (alone t cs 4 free w 1) (alone t cs 4 free w 2) (alone t cs 4 free w 3)
+      (fitting t column 0) (fitting t column 1) (fitting t column 2) (fitting t column 3)
+
+  output-at : (j : ℕ) → j < 4 → hasOutput (tableOf t cs) column j ≡ fitting t column j
+  unfolding hasOutput misses tableOf ones onesIn trailingZeros leadingZeros
+  output-at j h =
+      by-five (λ i. i < 4 → hasOutput (tableOf t cs) column i ≡ fitting t column i)
+      (λ l. refl) (λ l. refl) (λ l. refl) (λ l. refl) (λ l. absurd (omega arith)) j (omega arith) h
+
+  mends-by : (n : ℕ) → Width n → mendsBy (tableOf t cs) (setOf t cs n free w) n free w column ≡ mends t cs n free w column
+  unfolding mendsBy mends
+  mends-by n width = by-wire (decLt w n)
+    where
+      one-of : hasOne (tableOf t cs) column (setOf t cs n free w) ≡ someBelow n (λ j. both (alone t cs n free w j) (fitting t column j))
+      one-of = ⊎-elim (λ (e : n ≡ 3). rw e one-of-three) (λ (e : n ≡ 4). rw e one-of-four) width
+
+      by-wire : Dec (w < n) → mendsBy (tableOf t cs) (setOf t cs n free w) n free w column ≡ mends t cs n free w column
+      by-wire (yes h) =
+          let l : w < 4 = ⊎-elim (λ e. omega arith) (λ e. omega arith) width in
+          rw (one-of, output-at w l)
+      by-wire (no h) = rw (le-ltb w n (omega arith))
+
+module _ (t : Wanted) (cs : List ℕ) (n free : ℕ) (width : Width n) (w : ℕ) (h : w < 5) where
+  size-at : planOf t cs n free .sizes / 2 ^ (4 * w) % 16 ≡ owed t cs n free w
+  unfolding planOf owed
+  size-at = digit (owed t cs n free) w h (λ i l. few i)
+    where
+      few : (i : ℕ) → owed t cs n free i < 16
+      few i = ⊎-elim (λ e. omega (arith, count-le (alone t cs n free i) n)) (λ e. omega (arith, count-le (alone t cs n free i) n)) width
+
+  set-at : planOf t cs n free .sets / 2 ^ (4 * w) % 16 ≡ setOf t cs n free w
+  unfolding planOf setOf
+  set-at =
+      digit (setOf t cs n free) w h
+      (λ i l. set-lt (both (ltb 0 n) (alone t cs n free i 0)) (both (ltb 1 n) (alone t cs n free i 1)) (both (ltb 2 n) (alone t cs n free i 2)) (both (ltb 3 n) (alone t cs n free i 3)))
+
+-- the place of a wire's own column in the table
+pub own-lt : (w : ℕ) → w < 5 → 1 * 2 ^ w % 2 ^ 64 < 32
+own-lt = by-five (λ w. 1 * 2 ^ w % 2 ^ 64 < 32) (lit< tt) (lit< tt) (lit< tt) (lit< tt) (lit< tt)
+
+-- the target's column, as the code reads it from the table
+pub next-read : (g : ℕ) → lawful 2 5 g ≡ true → (t : Wanted) (cs table : List ℕ) → length cs ≡ 5 → table ≡ tableOf t cs
+    → bitXor (getD table (1 * 2 ^ targetOf g % 2 ^ 64) 0) (getD table (maskOf g) 0) ≡ getD (columnStep (gateOf g) cs) (targetOf g) 0
+next-read g hg t cs table l ht =
+    let h = parts 2 5 g hg .target in
+    rw (ht, shifted-one (targetOf g) (omega arith)) (next-column t cs g hg l)
+
+-- the test of a gate, from what the plan says of it
+module _ (t : Wanted) (cs : List ℕ) (n free g reach : ℕ) (width : Width n) (hg : lawful 2 5 g ≡ true)
+    (plan : Plan) (hp : plan ≡ planOf t cs n free) where
+  size-told : plan .sizes / 2 ^ (4 * targetOf g) % 16 ≡ owed t cs n free (targetOf g)
+  size-told = rw hp (size-at t cs n free width (targetOf g) (parts 2 5 g hg .target))
+
+  pub worth-size : (plan .sizes / 2 ^ (4 * targetOf g) % 16 ≡ reach → ⊥) → ltb (plan .sizes / 2 ^ (4 * targetOf g) % 16) reach ≡ worth t cs n free g reach
+  unfolding worth
+  worth-size f = let e = size-told in rw (ne-eqb (owed t cs n free (targetOf g)) reach (λ h. f (e ∙ h)), ← e)
+
+  pub worth-mends : plan .sizes / 2 ^ (4 * targetOf g) % 16 ≡ reach → (table : List ℕ) → table ≡ tableOf t cs → (column : ℕ)
+      → column ≡ getD (columnStep (gateOf g) cs) (targetOf g) 0
+      → mendsBy table (plan .sets / 2 ^ (4 * targetOf g) % 16) n free (targetOf g) column ≡ worth t cs n free g reach
+  unfolding worth
+  worth-mends f table ht column hc =
+      let e = sym size-told ∙ f in
+      let s = ap (λ (x : Plan). x .sets / 2 ^ (4 * targetOf g) % 16) hp ∙ set-at t cs n free width (targetOf g) (parts 2 5 g hg .target) in
+      rw (eq-eqb (owed t cs n free (targetOf g)) reach e, ht, s, hc)
+      (mends-by t cs free (targetOf g) (getD (columnStep (gateOf g) cs) (targetOf g) 0) n width)
+
+-- with the wires that have an output in a set, a target's digit is 1 where no other wire is in it
+abbrev free-of : Bool → Bool → Bool → Bool → ℕ → Bool
+free-of a b c d wire =
+    both (either (eqb 3 wire) (not d)) (both (either (eqb 2 wire) (not c)) (both (either (eqb 1 wire) (not b)) (both (either (eqb 0 wire) (not a)) true)))
+
+spread-set : (a b c d : Bool) → spreadOf (set a b c d) ≡ digits (λ wire. bit (free-of a b c d wire))
+unfolding spreadOf
+spread-set true true true true = refl
+spread-set true true true false = refl
+spread-set true true false true = refl
+spread-set true true false false = refl
+spread-set true false true true = refl
+spread-set true false true false = refl
+spread-set true false false true = refl
+spread-set true false false false = refl
+spread-set false true true true = refl
+spread-set false true true false = refl
+spread-set false true false true = refl
+spread-set false true false false = refl
+spread-set false false true true = refl
+spread-set false false true false = refl
+spread-set false false false true = refl
+spread-set false false false false = refl
+
+module _ (t : Wanted) (cs : List ℕ) (j : ℕ) where
+  abbrev on : ℕ → Bool
+  on w = fitting t (getD cs w 0) j
+
+  free-four : j < 4 → spreadOf (placesOf t cs 4 j) ≡ spotsOf t cs 4 1 j
+  unfolding placesOf spotsOf alone
+  free-four h = rw (lt-ltb j 4 h) (spread-set (on 0) (on 1) (on 2) (on 3))
+
+  free-three : j < 3 → spreadOf (placesOf t cs 3 j) ≡ spotsOf t cs 3 1 j
+  unfolding placesOf spotsOf alone
+  free-three h = rw (lt-ltb j 3 h) (spread-set (on 0) (on 1) (on 2) false)
+
+-- where an output has its own wire only, that wire is the one target for which it is alone if the wire has it, and else every target is
+fixed-set : (x : Bool) (j : ℕ) → j < 4 → pick x (1 * 2 ^ (4 * j) % 2 ^ 32) 69905 ≡ digits (λ wire. bit (either (eqb j wire) (not x)))
+fixed-set true j h =
+    by-five (λ i. i < 4 → 1 * 2 ^ (4 * i) % 2 ^ 32 ≡ digits (λ wire. bit (either (eqb i wire) false)))
+    (λ l. refl) (λ l. refl) (λ l. refl) (λ l. refl) (λ l. absurd (omega arith)) j (omega arith) h
+fixed-set false j h =
+    by-five (λ i. i < 4 → 69905 ≡ digits (λ wire. bit (either (eqb i wire) true)))
+    (λ l. refl) (λ l. refl) (λ l. refl) (λ l. refl) (λ l. absurd (omega arith)) j (omega arith) h
+
+pub digit-most : (j : ℕ) → j < 4 → 1 * 2 ^ (4 * j) % 2 ^ 32 ≤ 69905
+digit-most j h =
+    by-five (λ i. i < 4 → 1 * 2 ^ (4 * i) % 2 ^ 32 ≤ 69905)
+    (λ l. omega arith) (λ l. omega arith) (λ l. omega arith) (λ l. omega arith) (λ l. absurd (omega arith)) j (omega arith) h
+
+module _ (t : Wanted) (cs : List ℕ) (n free j : ℕ) where
+  pub fixed-at : (free ≡ 1 → ⊥) → j < n → j < 4 → pick (fitting t (getD cs j 0) j) (1 * 2 ^ (4 * j) % 2 ^ 32) 69905 ≡ spotsOf t cs n free j
+  unfolding spotsOf alone
+  fixed-at f h l = rw (ne-eqb free 1 f, lt-ltb j n h) (fixed-set (fitting t (getD cs j 0) j) j l)
+
+  pub free-at : free ≡ 1 → Width n → j < n → spreadOf (placesOf t cs n j) ≡ spotsOf t cs n free j
+  free-at e width h =
+      ⊎-elim (λ (f : n ≡ 3). rw (e, f) (free-three t cs j (rw f at h))) (λ (f : n ≡ 4). rw (e, f) (free-four t cs j (rw f at h))) width
+
+  pub no-spots : n ≤ j → spotsOf t cs n free j ≡ 0
+  unfolding spotsOf
+  no-spots h = rw (le-ltb j n h)
+
+sum-digits : (f g h k : ℕ → ℕ) → digits f + digits g + digits h + digits k ≡ digits (λ w. f w + g w + h w + k w)
+sum-digits f g h k = omega arith
+
+sum-sets : (f g h k : ℕ → ℕ) → digits f + 2 * digits g + 4 * digits h + 8 * digits k ≡ digits (λ w. f w + 2 * g w + 4 * h w + 8 * k w)
+sum-sets f g h k = omega arith
+
+same-digits : (f g : ℕ → ℕ) → ((w : ℕ) → f w ≡ g w) → digits f ≡ digits g
+same-digits f g h = rw (h 0, h 1, h 2, h 3, h 4)
+
+module _ (t : Wanted) (cs : List ℕ) (n free : ℕ) (width : Width n) where
+  owed-sum : (w : ℕ) → aloneBit t cs n free w 0 + aloneBit t cs n free w 1 + aloneBit t cs n free w 2 + aloneBit t cs n free w 3 ≡ owed t cs n free w
+  unfolding owed
+  owed-sum w = ⊎-elim (λ (e : n ≡ 3). rw e (omega arith)) (λ (e : n ≡ 4). rw e (omega arith)) width
+
+  sizes-is : spotsOf t cs n free 0 + spotsOf t cs n free 1 + spotsOf t cs n free 2 + spotsOf t cs n free 3 ≡ digits (owed t cs n free)
+  unfolding spotsOf
+  sizes-is =
+      sum-digits (λ w. aloneBit t cs n free w 0) (λ w. aloneBit t cs n free w 1) (λ w. aloneBit t cs n free w 2) (λ w. aloneBit t cs n free w 3)
+      ∙ same-digits _ (owed t cs n free) owed-sum
+
+  sets-is : spotsOf t cs n free 0 + 2 * spotsOf t cs n free 1 + 4 * spotsOf t cs n free 2 + 8 * spotsOf t cs n free 3 ≡ digits (setOf t cs n free)
+  unfolding spotsOf setOf
+  sets-is = sum-sets (λ w. aloneBit t cs n free w 0) (λ w. aloneBit t cs n free w 1) (λ w. aloneBit t cs n free w 2) (λ w. aloneBit t cs n free w 3)
+
+  owed-few : (w : ℕ) → owed t cs n free w ≤ 4
+  unfolding owed
+  owed-few w = ⊎-elim (λ e. omega (arith, count-le (alone t cs n free w) n)) (λ e. omega (arith, count-le (alone t cs n free w) n)) width
+
+  lost-is : digits (owed t cs n free) / 65536 ≡ lost t cs n free
+  lost-is = omega (arith, owed-few 0, owed-few 1, owed-few 2, owed-few 3)
+
+  pub plan-is : (a b c d : ℕ) → a ≡ spotsOf t cs n free 0 → b ≡ spotsOf t cs n free 1 → c ≡ spotsOf t cs n free 2 → d ≡ spotsOf t cs n free 3
+      → packed a b c d ≡ planOf t cs n free
+  unfolding planOf
+  plan-is a b c d ha hb hc hd = rw (ha, hb, hc, hd, sets-is, sizes-is, lost-is)
+
+  pub lost-at : planOf t cs n free .lost ≡ lost t cs n free
+  unfolding planOf
+  lost-at = refl
+
+-- what is lost, output by output
+module _ (t : Wanted) (cs : List ℕ) (n free : ℕ) (width : Width n) (a b c d : ℕ) where
+  pub free-lost : free ≡ 1 → a ≡ bit (allBelow n (λ w. missed t cs w 0)) → b ≡ bit (allBelow n (λ w. missed t cs w 1))
+      → c ≡ bit (allBelow n (λ w. missed t cs w 2)) → d ≡ bit (allBelow n (λ w. missed t cs w 3))
+      → pick (eqb n 4) d 0 + (c + (b + a)) ≡ lost t cs n free
+  unfolding owed alone
+  free-lost e ha hb hc hd =
+      ⊎-elim (λ (h : n ≡ 3). rw (ha, hb, hc, hd, h, eq-eqb free 1 e) (omega arith)) (λ (h : n ≡ 4). rw (ha, hb, hc, hd, h, eq-eqb free 1 e) (omega arith)) width
+
+  pub fixed-lost : (free ≡ 1 → ⊥) → a ≡ bit (missed t cs 0 0) → b ≡ bit (missed t cs 1 1) → c ≡ bit (missed t cs 2 2) → d ≡ bit (missed t cs 3 3)
+      → pick (eqb n 4) d 0 + (c + (b + a)) ≡ lost t cs n free
+  unfolding owed alone
+  fixed-lost e ha hb hc hd =
+      ⊎-elim (λ (h : n ≡ 3). rw (ha, hb, hc, hd, h, ne-eqb free 1 e) (omega arith)) (λ (h : n ≡ 4). rw (ha, hb, hc, hd, h, ne-eqb free 1 e) (omega arith)) width

@@ -1,0 +1,96 @@
+-- A stuck node begins no way to finish with at most k more gates.
+use mathlib.Core.Path.{_≡_, sym, ap, _∙_}
+use mathlib.Core.Bool.{Bool, true, false, not, false≢true}
+use mathlib.Core.List.{List, [], _∷_, List·Memᴰ}
+use Prim.Native.Nat.{ℕ, _≤_, _<_}
+use native.Mathlib.Decide.{ℕ-discrete}
+use native.Mathlib.Omega.{arith}
+use borrow.Author.Tests.{eq-eqb, ne-eqb, eqb-false, ltb-true, le-leb, not-true}
+use lib.Bits.{bitAnd, bitXor}
+use lib.Count.{ones}
+use lib.Dec.{eqb}
+use lib.ListN.{length, getD}
+use lib.Seq.{getD-set-same}
+use Rattle.logic.specs.Rules.{both, pick, someBelow, countBelow}
+use Rattle.logic.specs.Bit.{bitOf}
+use Rattle.logic.proofs.Chain.{both-left, both-right, both-true}
+use Rattle.logic.proofs.Counts.{count-more, some-at}
+use Rattle.logic.proofs.Xor.{xor-mends}
+use Rattle.gate.specs.Gates.{targetOf, maskOf, kindFor, lawful, gateOf}
+use Rattle.gate.specs.Inner.{firing, columnStep}
+use Rattle.gate.proofs.Widen.{parts}
+use Rattle.table.specs.Layouts.{Width, wireOf, layoutsFor}
+use Rattle.table.proofs.Layouts.{wire-within, wire-fixed}
+use Rattle.columns.specs.declared.Wanted.{Wanted}
+use Rattle.columns.specs.Wanted.{misses}
+use Rattle.columns.specs.Finish.{Finish}
+use Rattle.outputs.specs.Owed.{missed, alone, owed, lost, product, mayControl, mendableOn, mendable, stuck}
+use Rattle.outputs.proofs.Few.{missedOn, missed-kept, alone-missed, not-four, missed-few, lost-few, finish-next, first-lawful}
+
+module _ (t : Wanted) (n free p : ℕ) (width : Width n) (m : List·Memᴰ p (layoutsFor n free)) (cs : List ℕ) where
+  mendable-at : (j : ℕ) → j < n → mendableOn t cs (wireOf p j) j ≡ true → mendable t cs n free ≡ true
+  unfolding mendable
+  mendable-at j l h = by-free (ℕ-discrete free 1)
+    where
+      by-free : Dec (free ≡ 1) → someBelow n (λ w. pick (eqb free 1) (someBelow n (mendableOn t cs w)) (mendableOn t cs w w)) ≡ true
+      by-free (yes e) = some-at _ n (wireOf p j) (wire-within n free p width m j l) (rw (eq-eqb free 1 e) (some-at (mendableOn t cs (wireOf p j)) n j l h))
+      by-free (no f) = some-at _ n j l (rw (ne-eqb free 1 f) (rw (wire-fixed n free p width m f j l) at h))
+
+  module _ (g : ℕ) (hg : lawful 2 5 g ≡ true) (five : length cs ≡ 5) where
+    -- a gate that puts an output right on its target adds the rows that missed it
+    gate-mends : (j : ℕ) → missed t cs (targetOf g) j ≡ true → misses t (getD (columnStep (gateOf g) cs) (targetOf g) 0) j ≡ 0 → mendableOn t cs (targetOf g) j ≡ true
+    unfolding mendableOn misses columnStep gateOf
+    gate-mends j h z =
+        let q = parts 2 5 g hg in
+        let care = getD (t .care) j 0 in
+        let f = firing (kindFor (ones (maskOf g)) (maskOf g)) cs in
+        let s = getD-set-same cs (targetOf g) (bitXor (getD cs (targetOf g) 0) f) 0 (omega (arith, q .target)) in
+        let e = xor-mends care (getD cs (targetOf g) 0) f (getD (t .value) j 0) (rw s at z) in
+        let few = le-leb (ones (maskOf g)) 2 (q .few) in
+        let added : product cs (maskOf g) ≡ f = rw few in
+        both-true h (some-at (λ m. both (mayControl (targetOf g) m) (eqb (bitAnd (product cs m) care) (misses t (getD cs (targetOf g) 0) j))) 32 (maskOf g) (q .mask)
+        (both-true (both-true few (eq-eqb (bitOf (targetOf g) (maskOf g)) 0 (q .apart))) (eq-eqb _ _ (ap (λ x. bitAnd x care) added ∙ e))))
+
+    still-missed : mendable t cs n free ≡ false → (j : ℕ) → j < n → alone t cs n free 4 j ≡ true → missed t (columnStep (gateOf g) cs) (wireOf p j) j ≡ true
+    unfolding gateOf
+    still-missed u j l h = by-wire (ℕ-discrete (wireOf p j) (targetOf g))
+      where
+        now : missed t cs (wireOf p j) j ≡ true
+        now = alone-missed t n free p width m cs 4 j l h (not-four t n free p width m j l)
+
+        by-right : wireOf p j ≡ targetOf g → Dec (misses t (getD (columnStep (gateOf g) cs) (wireOf p j) 0) j ≡ 0) → missed t (columnStep (gateOf g) cs) (wireOf p j) j ≡ true
+        by-right s (no f) = rw (ne-eqb _ 0 f)
+        by-right s (yes z) = absurd (false≢true (sym u ∙ mendable-at j l (rw s (gate-mends j (rw s at now) (rw s at z)))))
+
+        by-wire : Dec (wireOf p j ≡ targetOf g) → missed t (columnStep (gateOf g) cs) (wireOf p j) j ≡ true
+        by-wire (yes s) = by-right s (ℕ-discrete (misses t (getD (columnStep (gateOf g) cs) (wireOf p j) 0) j) 0)
+        by-wire (no f) = rw (missed-kept t (gateOf g) cs (wireOf p j) j f) now
+
+    lost-left : mendable t cs n free ≡ false → lost t cs n free ≤ countBelow n (missedOn t p (columnStep (gateOf g) cs))
+    unfolding owed
+    lost-left u = count-more (alone t cs n free 4) (missedOn t p (columnStep (gateOf g) cs)) n (still-missed u)
+
+-- where no gate mends an output, a way to finish has one gate more than outputs are missed
+one-more : (t : Wanted) (n free : ℕ) (cs e : List ℕ) (p : ℕ) → Finish 2 t n free cs e p → mendable t cs n free ≡ false → 0 < lost t cs n free
+    → lost t cs n free < length e
+one-more t n free cs [] p f u h = omega (arith, lost-few 2 t n free cs [] p f)
+one-more t n free cs (g ∷ e) p f u h =
+    omega (
+      arith,
+      lost-left t n free p (f .width) (f .laid) cs g (first-lawful 2 t n free cs g e p f) (f .five) u,
+      missed-few 2 t n free (columnStep (gateOf g) cs) e p (finish-next 2 t n free cs g e p f),
+    )
+
+pub stuck-none : (t : Wanted) (n free : ℕ) (cs e : List ℕ) (p most : ℕ) → Finish 2 t n free cs e p → stuck t cs n free most ≡ true → length e ≤ most → ⊥
+unfolding stuck
+stuck-none t n free cs e p most f u le = by-size (ℕ-discrete (lost t cs n free) most)
+  where
+    some : Bool
+    some = mendable t cs n free
+
+    by-size : Dec (lost t cs n free ≡ most) → ⊥
+    by-size (yes s) =
+        let b = rw (eq-eqb (lost t cs n free) most s) at u in
+        let z = eqb-false most 0 (not-true (eqb most 0) (both-left (not (eqb most 0)) (not some) b)) in
+        omega (arith, one-more t n free cs e p f (not-true some (both-right (not (eqb most 0)) (not some) b)) (omega arith))
+    by-size (no s) = omega (arith, ltb-true most (lost t cs n free) (rw (ne-eqb (lost t cs n free) most s) at u), lost-few 2 t n free cs e p f)

@@ -1,0 +1,29 @@
+use mathlib.Core.Path.{_≡_}
+use mathlib.Core.Logic.{⊎-elim}
+use native.Mathlib.Omega.{arith}
+use borrow.Author.Tests.{eq-eqb, ne-eqb, lt-ltb, le-ltb}
+use borrow.Author.Needs.{needs}
+use Rattle.outputs.specs.Inner.{mendsBy}
+use Rattle.outputs.proofs.mends.Statement.{statement}
+use Rattle.outputs.proofs.mends.Tie as tie
+
+returns : tie.Need-returns
+unfolding mendsBy
+returns c = rw (le-ltb _ _ (c .if1 .taken))
+
+returns-2 : tie.Need-returns-2
+unfolding mendsBy
+returns-2 c = rw (lt-ltb _ _ (c .before .before .if1 .left), eq-eqb _ _ (c .before .if2 .taken)) (c .has-one .ensures)
+
+returns-3 : tie.Need-returns-3
+unfolding mendsBy
+returns-3 c = rw (lt-ltb _ _ (c .before .before .if1 .left), ne-eqb _ _ (c .before .if2 .left)) (c .has-output .ensures)
+
+has-output-requires : tie.Need-has-output-requires
+has-output-requires c κs =
+    let s = c .before .before .before in
+    let h = c .before .if1 .left in
+    (s .pre .0, ⊎-elim (λ (e : s .args .n ≡ 3). omega arith) (λ (e : s .args .n ≡ 4). omega arith) (s .pre .1))
+
+pub mends-spec : {M : Type 1} → statement M
+mends-spec = tie.close (tie.spec returns (λ c κs. search needs) has-output-requires returns-2 returns-3)

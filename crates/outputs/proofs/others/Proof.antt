@@ -1,0 +1,20 @@
+use borrow.Author.Tests.{ne-eqb}
+use Rattle.outputs.proofs.others.Statement.{statement}
+use Rattle.outputs.proofs.others.Tie as tie
+
+returns : tie.Need-returns
+returns c = rw (c .match .keys1)
+
+returns-2 : tie.Need-returns-2
+returns-2 c = rw (c .match .keys2)
+
+returns-3 : tie.Need-returns-3
+returns-3 c = rw (c .match .keys3)
+
+returns-4 : tie.Need-returns-4
+returns-4 c =
+    let k = c .match .rest in
+    rw (ne-eqb _ _ (k .0 .0 .1), ne-eqb _ _ (k .0 .1), ne-eqb _ _ (k .1))
+
+pub others-spec : {M : Type 1} → statement M
+others-spec = tie.close (tie.spec returns returns-2 returns-3 returns-4)

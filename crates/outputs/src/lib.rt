@@ -1,0 +1,480 @@
+// Which outputs are owed, and which next gates can keep up with them: a gate changes its target's column only.
+use columns::Wanted;
+ghost use mathlib.Core.Path.{_≡_};
+ghost use mathlib.Core.Bool.{true};
+ghost use mathlib.Core.List.{List};
+ghost use Prim.Native.Nat.{ℕ, _+_, _≤_, _<_};
+ghost use lib.Dec.{eqb};
+ghost use lib.ListN.{length, getD};
+ghost use Rattle.logic.specs.Rules.{pick, bit, allBelow};
+ghost use Rattle.gate.specs.Gates.{targetOf, lawful, gateOf};
+ghost use Rattle.gate.specs.Inner.{columnStep};
+ghost use Rattle.table.specs.Layouts.{Width};
+ghost use Rattle.columns.specs.declared.Wanted.{Wanted};
+ghost use Rattle.columns.specs.Wanted.{fitting};
+ghost use Rattle.outputs.specs.Owed.{missed, lost, worth, mendable, stuck};
+ghost use Rattle.outputs.specs.Inner.{productsOf, tableOf, planOf, hasOutput, hasOne, mendsBy, placesOf, spreadOf, spotsOf, packed, othersOf, hitBit, hitsOf, rowHits, wireHits};
+
+// What one look at a node says of all next gates: four bits a target, the outputs alone for it and how many they are.
+pub struct Plan {
+    pub sets: u32,
+    pub sizes: u32,
+    pub lost: usize,
+}
+
+// The products of at most two columns, in the order of their masks: what a gate may add to its target.
+fn products(columns: [u16; 5]) -> [u16; 16]
+    ensures { λ r. ⌜ r ≡ productsOf columns ⌝ }
+{
+    let a = columns[0];
+    let b = columns[1];
+    let c = columns[2];
+    let d = columns[3];
+    let e = columns[4];
+    [
+        65535,
+        a,
+        b,
+        a & b,
+        c,
+        a & c,
+        b & c,
+        d,
+        a & d,
+        b & d,
+        c & d,
+        e,
+        a & e,
+        b & e,
+        c & e,
+        d & e,
+    ]
+}
+
+// The product of each mask of at most two wires, at the mask's place, then the values and the cares: one slice to lend to every test.
+pub fn table_of(t: Wanted, columns: [u16; 5]) -> [u16; 40]
+    ensures { λ r. ⌜ r ≡ tableOf t columns ⌝ }
+{
+    let ps = products(columns);
+    let value = t.value;
+    let care = t.care;
+    [
+        ps[0],
+        ps[1],
+        ps[2],
+        ps[3],
+        ps[4],
+        ps[5],
+        ps[6],
+        0,
+        ps[7],
+        ps[8],
+        ps[9],
+        0,
+        ps[10],
+        0,
+        0,
+        0,
+        ps[11],
+        ps[12],
+        ps[13],
+        0,
+        ps[14],
+        0,
+        0,
+        0,
+        ps[15],
+        0,
+        0,
+        0,
+        0,
+        0,
+        0,
+        0,
+        value[0],
+        value[1],
+        value[2],
+        value[3],
+        care[0],
+        care[1],
+        care[2],
+        care[3],
+    ]
+}
+
+// The target's column after a gate.
+fn next_column(table: &[u16], g: u8) -> u16
+    requires { ⌜ length (now table) ≡ 40 ⌝ }
+    requires { ⌜ lawful 2 5 g ≡ true ⌝ }
+    ensures { λ r. ⌜ ((t : Wanted) (cs : List ℕ) → length cs ≡ 5 → now (table .entry) ≡ tableOf t cs → r ≡ getD (columnStep (gateOf g) cs) (targetOf g) 0) ⌝ }
+{
+    let w = (g / 32) as usize;
+    table[1 << w] ^ table[(g % 32) as usize]
+}
+
+// All columns after a gate.
+pub fn step(table: &[u16], columns: [u16; 5], g: u8) -> [u16; 5]
+    requires { ⌜ length (now table) ≡ 40 ⌝ }
+    requires { ⌜ lawful 2 5 g ≡ true ⌝ }
+    ensures { λ r. ⌜ ((t : Wanted) → now (table .entry) ≡ tableOf t columns → r ≡ columnStep (gateOf g) columns) ⌝ }
+{
+    let t = (g / 32) as usize;
+    logic::with_cell(columns, t, next_column(table, g))
+}
+
+// Whether a column has every bit that the rows want of output `j`, by the table.
+fn has_output(table: &[u16], column: u16, j: usize) -> bool
+    requires { ⌜ length (now table) ≡ 40 ⌝ }
+    requires { ⌜ j < 4 ⌝ }
+    ensures { λ r. ⌜ r ≡ hasOutput (now (table .entry)) column j ⌝ }
+{
+    (column ^ table[32 + j]) & table[36 + j] == 0
+}
+
+// Whether a column has every wanted bit of an output of the set.
+fn has_one(table: &[u16], column: u16, set: u32) -> bool
+    requires { ⌜ length (now table) ≡ 40 ⌝ }
+    ensures { λ r. ⌜ r ≡ hasOne (now (table .entry)) column set ⌝ }
+{
+    let low = logic::either(
+        logic::both(set / 2 % 2 == 1, has_output(table, column, 1)),
+        logic::both(set % 2 == 1, has_output(table, column, 0)),
+    );
+    logic::either(
+        logic::both(set / 8 % 2 == 1, has_output(table, column, 3)),
+        logic::either(
+            logic::both(set / 4 % 2 == 1, has_output(table, column, 2)),
+            low,
+        ),
+    )
+}
+
+// Whether the target's new column has an output that all other wires miss.
+fn mends(table: &[u16], set: u32, n: usize, free: usize, w: usize, column: u16) -> bool
+    requires { ⌜ length (now table) ≡ 40 ⌝ }
+    requires { ⌜ Width n ⌝ }
+    ensures { λ r. ⌜ r ≡ mendsBy (now (table .entry)) set n free w column ⌝ }
+{
+    if n <= w {
+        return false;
+    }
+    if free == 1 {
+        has_one(table, column, set)
+    } else {
+        has_output(table, column, w)
+    }
+}
+
+// Whether gate `g` can begin a list of at most `reach` gates that realizes the table.
+pub fn worth(table: &[u16], plan: Plan, n: usize, free: usize, g: u8, reach: usize) -> bool
+    requires { ⌜ length (now table) ≡ 40 ⌝ }
+    requires { ⌜ lawful 2 5 g ≡ true ⌝ }
+    requires { ⌜ Width n ⌝ }
+    ensures { λ r. ⌜ ((t : Wanted) (cs : List ℕ) → length cs ≡ 5 → now (table .entry) ≡ tableOf t cs → plan ≡ planOf t cs n free → r ≡ worth t cs n free g reach) ⌝ }
+{
+    let w = (g / 32) as usize;
+    let size = ((plan.sizes >> (4 * w)) % 16) as usize;
+    if size != reach {
+        return size < reach;
+    }
+    let column = next_column(table, g);
+    mends(table, (plan.sets >> (4 * w)) % 16, n, free, w, column)
+}
+
+fn one(b: bool) -> u16
+    ensures { λ r. ⌜ r ≡ bit b ⌝ }
+    ensures { λ r. ⌜ r ≤ 1 ⌝ }
+{
+    if b { 1 } else { 0 }
+}
+
+// Whether a column has every bit that the rows want of output `j`.
+fn fits(t: Wanted, column: u16, j: usize) -> bool
+    ensures { λ r. ⌜ r ≡ fitting t column j ⌝ }
+{
+    columns::misses(t, column, j) == 0
+}
+
+// The data wires that have output `j`, a bit each.
+fn places(t: Wanted, columns: [u16; 5], n: usize, j: usize) -> u16
+    ensures { λ r. ⌜ r ≡ placesOf t columns n j ⌝ }
+{
+    let low = one(fits(t, columns[0], j)) + 2 * one(fits(t, columns[1], j));
+    let last = logic::both(n == 4, fits(t, columns[3], j));
+    low + 4 * one(fits(t, columns[2], j)) + 8 * one(last)
+}
+
+// A digit for each target: 1 where no other wire is in the set.
+fn spread(set: u16) -> u32
+    ensures { λ r. ⌜ r ≡ spreadOf set ⌝ }
+    ensures { λ r. ⌜ r ≤ 69905 ⌝ }
+{
+    match set {
+        0 => 0x11111,
+        1 => 0x00001,
+        2 => 0x00010,
+        4 => 0x00100,
+        8 => 0x01000,
+        _ => 0,
+    }
+}
+
+// The targets for which output `j` is alone where layouts are free, a digit each.
+fn free_spots(t: Wanted, columns: [u16; 5], n: usize, j: usize) -> u32
+    requires { ⌜ Width n ⌝ }
+    ensures { λ r. ⌜ ((free : ℕ) → free ≡ 1 → r ≡ spotsOf t columns n free j) ⌝ }
+    ensures { λ r. ⌜ r ≤ 69905 ⌝ }
+{
+    if n <= j {
+        return 0;
+    }
+    spread(places(t, columns, n, j))
+}
+
+// The same where the layout is fixed: all targets, or the output's own wire alone.
+fn fixed_spots(t: Wanted, columns: [u16; 5], n: usize, j: usize) -> u32
+    requires { ⌜ j < 4 ⌝ }
+    ensures { λ r. ⌜ ((free : ℕ) → (free ≡ 1 → ⊥) → r ≡ spotsOf t columns n free j) ⌝ }
+    ensures { λ r. ⌜ r ≤ 69905 ⌝ }
+{
+    if n <= j {
+        return 0;
+    }
+    if fits(t, columns[j], j) {
+        1 << (4 * j)
+    } else {
+        0x11111
+    }
+}
+
+fn pack(a: u32, b: u32, c: u32, d: u32) -> Plan
+    requires { ⌜ (a ≤ 69905) × ((b ≤ 69905) × ((c ≤ 69905) × (d ≤ 69905))) ⌝ }
+    ensures { λ r. ⌜ r ≡ packed a b c d ⌝ }
+{
+    let sizes = a + b + c + d;
+    Plan {
+        sets: a + 2 * b + 4 * c + 8 * d,
+        sizes,
+        lost: (sizes / 65536) as usize,
+    }
+}
+
+// What the columns say of all next gates; `lost` is what every layout misses.
+pub fn plan_of(t: Wanted, columns: [u16; 5], n: usize, free: usize) -> Plan
+    requires { ⌜ Width n ⌝ }
+    ensures { λ r. ⌜ r ≡ planOf t columns n free ⌝ }
+    ensures { λ r. ⌜ r .lost ≡ lost t columns n free ⌝ }
+{
+    if free == 1 {
+        pack(
+            free_spots(t, columns, n, 0),
+            free_spots(t, columns, n, 1),
+            free_spots(t, columns, n, 2),
+            free_spots(t, columns, n, 3),
+        )
+    } else {
+        pack(
+            fixed_spots(t, columns, n, 0),
+            fixed_spots(t, columns, n, 1),
+            fixed_spots(t, columns, n, 2),
+            fixed_spots(t, columns, n, 3),
+        )
+    }
+}
+
+// The products of wires other than `w`, a bit each: what a gate on `w` may add.
+fn others(w: usize) -> u16
+    requires { ⌜ w < 4 ⌝ }
+    ensures { λ r. ⌜ r ≡ othersOf w ⌝ }
+{
+    match w {
+        0 => 0xEED5,
+        1 => 0xDDB3,
+        2 => 0xBB8F,
+        _ => 0x787F,
+    }
+}
+
+// Whether product `i` may be added, and is what is wanted in the rows that care.
+fn hit(i: usize, p: u16, allowed: u16, care: u16, want: u16) -> u16
+    requires { ⌜ i < 16 ⌝ }
+    ensures { λ r. ⌜ r ≡ bit (hitBit i p allowed care want) ⌝ }
+{
+    one((allowed >> i) % 2 == 1) & one(p & care == want)
+}
+
+// Whether some product that may be added is one of four columns: no early exit, so that all are compared at once.
+fn hits(
+    ps: [u16; 16],
+    k: u16,
+    a: u16,
+    x: u16,
+    l: u16,
+    b: u16,
+    y: u16,
+    m: u16,
+    c: u16,
+    z: u16,
+    o: u16,
+    d: u16,
+    v: u16,
+) -> u16
+    ensures { λ r. ⌜ r ≡ bit (hitsOf ps k a x l b y m c z o d v) ⌝ }
+{
+    let mut any: u16 = 0;
+    let mut i = 0;
+    while i < 16 {
+        let p = ps[i];
+        any = (hit(i, p, o, d, v)
+            | (hit(i, p, m, c, z) | (hit(i, p, l, b, y) | hit(i, p, k, a, x))))
+            | any;
+        i += 1;
+    }
+    any
+}
+
+// Whether some product mends one of four outputs, by the rows that each misses; where none is missed, nothing is to be mended.
+fn row_hits(
+    ps: [u16; 16],
+    care: [u16; 4],
+    k: u16,
+    a: u16,
+    l: u16,
+    b: u16,
+    m: u16,
+    c: u16,
+    o: u16,
+    d: u16,
+) -> u16
+    ensures { λ r. ⌜ r ≡ bit (rowHits ps care k a l b m c o d) ⌝ }
+{
+    hits(
+        ps,
+        logic::picked(a == 0, 0, k),
+        care[0],
+        a,
+        logic::picked(b == 0, 0, l),
+        care[1],
+        b,
+        logic::picked(c == 0, 0, m),
+        care[2],
+        c,
+        logic::picked(d == 0, 0, o),
+        care[3],
+        d,
+    )
+}
+
+// Whether some product mends an output on wire `w`.
+fn wire_hits(t: Wanted, columns: [u16; 5], ps: [u16; 16], n: usize, w: usize) -> u16
+    requires { ⌜ w < 4 ⌝ }
+    ensures { λ r. ⌜ r ≡ bit (wireHits ps t columns n w) ⌝ }
+{
+    let care = t.care;
+    let column = columns[w];
+    let k = others(w);
+    row_hits(
+        ps,
+        care,
+        k,
+        columns::misses(t, column, 0),
+        k,
+        columns::misses(t, column, 1),
+        k,
+        columns::misses(t, column, 2),
+        k,
+        logic::picked(n == 4, columns::misses(t, column, 3), 0),
+    )
+}
+
+// Whether some product mends an output on a wire that a layout may give it: one function, which the compiler then inlines.
+fn mendable(t: Wanted, columns: [u16; 5], n: usize, free: usize) -> u16
+    requires { ⌜ Width n ⌝ }
+    ensures { λ r. ⌜ r ≡ bit (mendable t columns n free) ⌝ }
+{
+    let ps = products(columns);
+    if free == 1 {
+        logic::picked(n == 4, wire_hits(t, columns, ps, n, 3), 0)
+            | (wire_hits(t, columns, ps, n, 2)
+                | (wire_hits(t, columns, ps, n, 1) | wire_hits(t, columns, ps, n, 0)))
+    } else {
+        let care = t.care;
+        row_hits(
+            ps,
+            care,
+            others(0),
+            columns::misses(t, columns[0], 0),
+            others(1),
+            columns::misses(t, columns[1], 1),
+            others(2),
+            columns::misses(t, columns[2], 2),
+            others(3),
+            logic::picked(n == 4, columns::misses(t, columns[3], 3), 0),
+        )
+    }
+}
+
+// 1 where a column misses output `j`.
+fn misses_one(t: Wanted, column: u16, j: usize) -> u16
+    ensures { λ r. ⌜ ((cs : List ℕ) (w : ℕ) → column ≡ getD cs w 0 → r ≡ bit (missed t cs w j)) ⌝ }
+    ensures { λ r. ⌜ r ≤ 1 ⌝ }
+{
+    one(columns::misses(t, column, j) != 0)
+}
+
+// 1 where output `j` is missed on every data wire.
+fn nowhere(t: Wanted, columns: [u16; 5], n: usize, j: usize) -> u16
+    requires { ⌜ Width n ⌝ }
+    ensures { λ r. ⌜ r ≡ bit (allBelow n (λ w. missed t columns w j)) ⌝ }
+    ensures { λ r. ⌜ r ≤ 1 ⌝ }
+{
+    logic::picked(n == 4, misses_one(t, columns[3], j), 1)
+        & (misses_one(t, columns[2], j)
+            & (misses_one(t, columns[1], j) & misses_one(t, columns[0], j)))
+}
+
+fn sum(n: usize, a: u16, b: u16, c: u16, d: u16) -> usize
+    requires { ⌜ (a ≤ 1) × ((b ≤ 1) × ((c ≤ 1) × (d ≤ 1))) ⌝ }
+    ensures { λ r. ⌜ r ≡ pick (eqb n 4) d 0 + (c + (b + a)) ⌝ }
+{
+    (logic::picked(n == 4, d, 0) + (c + (b + a))) as usize
+}
+
+// How many outputs every allowed layout misses.
+fn lost(t: Wanted, columns: [u16; 5], n: usize, free: usize) -> usize
+    requires { ⌜ Width n ⌝ }
+    ensures { λ r. ⌜ r ≡ lost t columns n free ⌝ }
+{
+    if free == 1 {
+        sum(
+            n,
+            nowhere(t, columns, n, 0),
+            nowhere(t, columns, n, 1),
+            nowhere(t, columns, n, 2),
+            nowhere(t, columns, n, 3),
+        )
+    } else {
+        sum(
+            n,
+            misses_one(t, columns[0], 0),
+            misses_one(t, columns[1], 1),
+            misses_one(t, columns[2], 2),
+            misses_one(t, columns[3], 3),
+        )
+    }
+}
+
+// Whether no list of at most `reach` gates goes on from these columns to the table: where each gate left must mend an output, none can.
+pub fn stuck(t: Wanted, columns: [u16; 5], n: usize, free: usize, reach: usize) -> bool
+    requires { ⌜ Width n ⌝ }
+    ensures { λ r. ⌜ r ≡ stuck t columns n free reach ⌝ }
+{
+    let least = lost(t, columns, n, free);
+    if least != reach {
+        return reach < least;
+    }
+    if reach == 0 {
+        return false;
+    }
+    mendable(t, columns, n, free) == 0
+}

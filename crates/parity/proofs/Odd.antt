@@ -1,0 +1,22 @@
+-- What makes a table odd, as a test and as a parity.
+use mathlib.Core.Path.{_≡_, refl}
+use mathlib.Core.Bool.{Bool, true, false, false≢true}
+use Prim.Native.Nat.{ℕ}
+use native.Mathlib.Omega.{arith}
+use Rattle.logic.specs.Rules.{both, pick}
+use Rattle.parity.specs.Parity.{Parity, even, odd, neither, isOdd}
+
+pub odd-is : (p : Parity) → isOdd p ≡ true → p ≡ odd
+odd-is even h = absurd (false≢true h)
+odd-is odd h = refl
+odd-is neither h = absurd (false≢true h)
+
+pub odd-test : (p q : Bool) → both p q ≡ isOdd (pick p (pick q odd even) neither)
+odd-test true true = refl
+odd-test true false = refl
+odd-test false q = refl
+
+pub odd-parts : (p q : Bool) → pick p (pick q odd even) neither ≡ odd → (p ≡ true) × (q ≡ true)
+odd-parts true true h = (refl, refl)
+odd-parts true false h = let z : _≡_ {A = ℕ} 0 1 = cc in absurd (omega arith)
+odd-parts false q h = let z : _≡_ {A = ℕ} 0 1 = cc in absurd (omega arith)

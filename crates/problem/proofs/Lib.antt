@@ -1,0 +1,5 @@
+pub mod Listed
+pub mod Facts
+pub mod Skips
+pub mod Walk
+pub mod Limits

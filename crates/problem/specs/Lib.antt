@@ -1,0 +1,3 @@
+pub mod Problems
+pub mod Demand
+pub mod Inner

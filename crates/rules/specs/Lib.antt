@@ -1,2 +1,0 @@
-pub mod Worth
-pub mod Inner

@@ -1,0 +1,4 @@
+// The program, run on no input at all.
+fn main() {
+    program::answer();
+}

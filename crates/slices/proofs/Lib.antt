@@ -1,5 +1,0 @@
-pub mod Counts
-pub mod Bits
-pub mod Realized
-pub mod Allowed
-pub mod Fewest

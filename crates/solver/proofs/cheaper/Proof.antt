@@ -1,0 +1,86 @@
+-- The loop rises through the costs: nothing good costs less than the one at hand, by a search that failed or because it is no sum of prices.
+use mathlib.Core.Logic.{⊎-elim}
+use mathlib.Core.Path.{_≡_, sym, subst}
+use Prim.Native.Nat.{_-_, _≤_, _<_}
+use native.Mathlib.Omega.{arith}
+use borrow.Author.Needs.{needs}
+use Rattle.choice.specs.Inner.{view}
+use Rattle.problem.specs.Problems.{Problem}
+use Rattle.problem.specs.Inner.{Dearer, Shortest}
+use Rattle.problem.proofs.Limits.{final, found-cost}
+use Rattle.solver.specs.declared.Task.{Task}
+use Rattle.solver.specs.States.{Posed, Bounded, Limited, Ready, limitedTo}
+use Rattle.solver.proofs.Searches.{unmarked, priced-below}
+use Rattle.solver.proofs.cheaper.Statement.{statement}
+use Rattle.solver.proofs.cheaper.Tie as tie
+
+abbrev Inv-loop : tie.InvT-loop
+Inv-loop gates prices durations task least marks held c₀ c =
+    (c ≤ held .cost) × ((P : Problem) → Posed P task gates prices durations → Bounded P least → Limited P task → Shortest P (P .mostCost) (view held) (held .len) → Dearer P c)
+
+abbrev μ-loop : tie.MeasureT-loop
+μ-loop gates prices durations task least marks held c₀ c = held .cost - c
+
+loop-holds : tie.Need-loop-holds Inv-loop μ-loop
+loop-holds c = (omega arith, λ P posed bounded limited first. record { cost-least = λ a m h. omega arith })
+
+at-cost-requires : tie.Need-at-cost-requires Inv-loop μ-loop
+unfolding limitedTo
+at-cost-requires c κs =
+    let s = c .before .before .before .before .before .before .before .before .before .before in
+    let r = s .pre .1 .0 in (
+      s .pre .0,
+      subst (λ (t : Task). Ready t (s .args .least) × (t .«gate_limit» ≤ 12)) (sym (c .limited-to .ensures)) (record { wide = r .0 .wide; modest = r .0 .modest; few = r .0 .few }, r .1),
+    )
+
+returns : tie.Need-returns Inv-loop μ-loop
+returns c =
+    let s = c .before .before .before .before .before .before .before .before .before .before .before .before in
+    let a = s .args in
+    let q = c .before .before .before .before .before .before .before .loop in
+    let b = c .before .before .before .before .before .if1 .taken in
+    let r = c .before .at-cost in
+    let f = c .if3 .taken in (
+      (λ P posed bounded limited first.
+          let held = s .pre .1 .1 .1 .0 in
+          let most = found-cost P (P .mostCost) (a .held) (omega arith) held first in
+          let d = priced-below P (a .task) _ _ _ posed (a .least) bounded limited (a .held) held first (q .c) b _ (c .before .before .limited-to .ensures) (r .result) (r .ensures .0 P) in
+          let here = d .first f in
+          final P (q .c) (r .result) (omega arith) f here (q .c) (q .inv .1 P posed bounded limited first) (found-cost P (q .c) (r .result) (omega arith) f here)),
+      r .ensures .1,
+    )
+
+loop-again : tie.Need-loop-again Inv-loop μ-loop
+loop-again c =
+    let s = c .before .before .before .before .before .before .before .before .before in
+    let a = s .args in
+    let q = c .before .before .before .before .loop in
+    let b = c .before .before .if1 .taken in (
+      omega arith,
+      λ P posed bounded limited first.
+          ⊎-elim
+          (λ d.
+          priced-below P (a .task) _ _ _ posed (a .least) bounded limited (a .held) (s .pre .1 .1 .1 .0) first (q .c) b _ (d .1 .ensures) (d .2 .result) (d .2 .ensures .0 P)
+          .failed (d .3 .left))
+          (λ d.
+          let n = c .before .achievable .ensures (d .left) in
+          unmarked P (a .task) _ _ _ posed (s .pre .0 .priced-all) (a .marks .now) (q .c) (rw (limited .gates-most) at (s .pre .1 .1 .0)) (n .0) (n .1) (q .inv .1 P posed bounded limited first))
+          (c .if2 .came),
+    )
+
+returns-2 : tie.Need-returns-2 Inv-loop μ-loop
+returns-2 c =
+    let s = c .before .before .before .before .before .before .before in
+    let q = c .before .before .loop in
+    let b = c .if1 .left in (
+      (λ P posed bounded limited first.
+          final P (P .mostCost) (s .args .held) (omega arith) (s .pre .1 .1 .1 .0) first (q .c) (q .inv .1 P posed bounded limited first) (omega arith)),
+      s .pre .1 .1 .1 .1,
+    )
+
+pub cheaper-spec : {M : Type 1} → statement M
+cheaper-spec =
+    tie.close
+    (tie.spec Inv-loop μ-loop loop-holds (λ c. search needs) (λ c κs. search needs) (λ c κs. search needs) at-cost-requires returns
+    (λ c. let b = c .before .before .if1 .taken in search needs) (λ c. let b = c .before .before .if1 .taken in omega arith) loop-again
+    returns-2)

@@ -1,0 +1,123 @@
+-- What a search knows on its way, and which problems its arguments pose. The least numbers are those of the arguments; the rest is said of
+-- every problem that they fit.
+use mathlib.Core.Path.{_≡_}
+use mathlib.Core.Bool.{true, false}
+use mathlib.Core.List.{List, [], _∷_, _++_, List·Memᴰ}
+use mathlib.Core.Option.{Option}
+use Prim.Native.Nat.{ℕ, _+_, _-_, _*_, _≤_, _<_}
+use lib.ListN.{length, getD, take}
+use Rattle.logic.specs.Lists.{Among}
+use Rattle.gate.specs.Gates.{lawful}
+use Rattle.circuit.specs.Measure.{cost, readyTimes}
+use Rattle.circuit.specs.Inner.{columnsAfter}
+use Rattle.table.specs.Layouts.{Width, layoutsFor}
+use Rattle.columns.specs.Wanted.{startColumns, met}
+use Rattle.choice.specs.Choices.{Choice}
+use Rattle.problem.specs.Problems.{Problem}
+use Rattle.choice.specs.declared.Best.{Best}
+use Rattle.choice.specs.Inner.{view}
+use Rattle.problem.specs.Inner.{lookedUnder, Past, Dearer, Shortest}
+use Rattle.budget.specs.Heavy.{heavies}
+use Rattle.budget.specs.Afford.{CostsAtLeast}
+use Rattle.solver.specs.declared.Task.{Task}
+use Rattle.solver.specs.declared.Least.{Least}
+use Rattle.solver.specs.declared.Node.{Node}
+use Rattle.solver.specs.declared.Entry.{Entry}
+
+-- the list that leads to a node
+abbrev pub listOf : Node → List ℕ
+listOf s = take (s .len) (s .path)
+
+-- three slices of one length, of gates that the columns' step knows
+pub record Slices (gates prices durations : List ℕ) : Type 0 where
+  pub priced-all : length prices ≡ length gates
+  pub timed-all : length durations ≡ length gates
+  pub known : (i : ℕ) → i < length gates → lawful 2 5 (getD gates i 0) ≡ true
+
+-- the list of a node has its room, and the sums fit their words
+pub record Small (s : Node) : Type 0 where
+  pub sized : length (s .path) ≡ 12
+  pub early : (w : ℕ) → getD (s .times) w 0 ≤ 255 * s .len
+  pub cheap : s .cost ≤ 255 * s .len
+  pub few : s .needs ≤ 12
+
+-- what the numbers of a search keep to
+pub record Ready (task : Task) (least : Least) : Type 0 where
+  pub wide : Width (task .outputs)
+  pub modest : least .extra ≤ 255
+  pub few : least .needs ≤ 12
+
+-- each way to finish the list has at least k heavy gates
+pub record Needs (P : Problem) (l : List ℕ) (k : ℕ) : Type 0 where
+  pub least : (e : List ℕ) (p : ℕ) → Among (P .gates) e → List·Memᴰ p (P .layouts) → P .realized p (l ++ e) ≡ true → k ≤ heavies e
+
+-- the task asks what the problem does: the layouts, the wanted columns and the limit on depth; the gates are of the kinds that columns know
+pub record Asks (P : Problem) (task : Task) : Type 0 where
+  pub wide : Width (task .outputs)
+  pub four : length (task .wanted .care) ≡ 4
+  pub laid : P .layouts ≡ layoutsFor (task .outputs) (task .free)
+  pub table : (p : ℕ) (l : List ℕ) → Among (P .gates) l → P .realized p l ≡ met (task .wanted) (columnsAfter l startColumns) p
+  pub deep : task .«depth_limit» ≡ P .mostDepth
+  pub kinds : (g : ℕ) → List·Memᴰ g (P .gates) → lawful 2 5 g ≡ true
+
+-- and the slices are the problem's gates with their prices and durations
+pub record Posed (P : Problem) (task : Task) (gates prices durations : List ℕ) : Type 0 where
+  pub asks : Asks P task
+  pub listed : gates ≡ P .gates
+  pub priced : (i : ℕ) → i < length gates → getD prices i 0 ≡ P .price (getD gates i 0)
+  pub timed : (i : ℕ) → i < length gates → getD durations i 0 ≡ P .duration (getD gates i 0)
+
+-- the limits on gates and cost are the problem's own
+pub record Limited (P : Problem) (task : Task) : Type 0 where
+  pub gates-most : task .«gate_limit» ≡ P .mostGates
+  pub cost-most : task .«cost_limit» ≡ P .mostCost
+
+-- what every list has and costs at least
+pub record Bounded (P : Problem) (least : Least) : Type 0 where
+  pub costs : CostsAtLeast (least .low) (least .extra) (P .gates) (P .price)
+  pub needed : Needs P [] (least .needs)
+
+-- the node is where its list leads
+pub record At (P : Problem) (s : Node) : Type 0 where
+  pub roomy : s .len ≤ length (s .path)
+  pub kept : Among (P .gates) (listOf s)
+  pub columned : s .columns ≡ columnsAfter (listOf s) startColumns
+  pub timed : s .times ≡ readyTimes (P .duration) (listOf s)
+  pub paid : s .cost ≡ cost (P .price) (listOf s)
+  pub needing : Needs P (listOf s) (s .needs)
+
+-- a gate of the problem with its own price and duration
+pub record Lists (P : Problem) (e : Entry) : Type 0 where
+  pub listed : List·Memᴰ (e .gate) (P .gates)
+  pub priced : e .price ≡ P .price (e .gate)
+  pub timed : e .duration ≡ P .duration (e .gate)
+
+-- a node one gate further than s
+pub record Follows (P : Problem) (s : Node) (g : ℕ) (next : Node) : Type 0 where
+  pub at : At P next
+  pub longer : listOf next ≡ listOf s ++ (g ∷ [])
+
+-- a gate that is passed over would not change what is held
+abbrev pub Passed : Problem → ℕ → Node → ℕ → ℕ → Option Choice → Type 0
+Passed P limit s g remaining held = lookedUnder P limit (listOf s ++ (g ∷ [])) (remaining - 1) held ≡ held
+
+-- what a search for the fewest gates, up to `most` of them, comes to
+pub record Deepened (P : Problem) (limit most : ℕ) (r : Best) : Type 0 where
+  pub failed : r .found ≡ false → Past P limit (most + 1)
+  pub first : r .found ≡ true → Shortest P limit (view r) (r .len)
+
+-- what a search at one cost comes to
+pub record Priced (P : Problem) (limit : ℕ) (r : Best) : Type 0 where
+  pub failed : r .found ≡ false → Dearer P (limit + 1)
+  pub first : r .found ≡ true → Shortest P limit (view r) (r .len)
+
+-- the same task with another limit on cost
+unfoldable pub limitedTo : Task → ℕ → Task
+limitedTo task c = record {
+  wanted = task .wanted;
+  outputs = task .outputs;
+  free = task .free;
+  «gate_limit» = task .«gate_limit»;
+  «cost_limit» = c;
+  «depth_limit» = task .«depth_limit»;
+}

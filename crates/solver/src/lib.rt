@@ -1,0 +1,472 @@
+// The search for the first good choice of a problem: depth first over all gate lists up to the limit, cutting only what cannot change the answer.
+// It takes slices of gates, prices and durations, and knows no job; its contracts speak of every problem that the arguments pose.
+use choice::Best;
+use columns::Wanted;
+ghost use mathlib.Core.Path.{_≡_};
+ghost use mathlib.Core.Bool.{true, false};
+ghost use mathlib.Core.List.{List, [], _∷_, _++_};
+ghost use mathlib.Core.Option.{none};
+ghost use Prim.Native.Nat.{ℕ, _+_, _≤_, _<_};
+ghost use lib.ListN.{length, getD};
+ghost use Rattle.logic.specs.Lists.{Among};
+ghost use Rattle.gate.specs.Gates.{lawful};
+ghost use Rattle.circuit.specs.Measure.{cost};
+ghost use Rattle.circuit.specs.Inner.{columnsAfter};
+ghost use Rattle.table.specs.Layouts.{Width};
+ghost use Rattle.columns.specs.Wanted.{startColumns};
+ghost use Rattle.choice.specs.Choices.{Choice, attempt, improve};
+ghost use Rattle.choice.specs.Inner.{view};
+ghost use Rattle.problem.specs.Problems.{Problem, choiceOf, here, within, firstGood};
+ghost use Rattle.problem.specs.Inner.{lookedUnder, Enough, Past, Shortest};
+ghost use Rattle.budget.specs.Sums.{Marked};
+ghost use Rattle.outputs.specs.Owed.{lost};
+ghost use Rattle.outputs.specs.Inner.{tableOf};
+ghost use Rattle.solver.specs.States.{listOf, Slices, Small, Ready, Needs, Asks, Posed, Limited, Bounded, At, Lists, Follows, Passed, Deepened, Priced, limitedTo};
+
+// What a search asks for.
+pub struct Task {
+    pub wanted: Wanted,
+    pub outputs: usize,
+    pub free: usize,
+    pub gate_limit: usize,
+    pub cost_limit: usize,
+    pub depth_limit: usize,
+}
+
+// What every list has and costs at least: the least price, what a heavy gate costs above it, and how many heavy gates there are.
+pub struct Least {
+    pub low: usize,
+    pub extra: usize,
+    pub needs: usize,
+}
+
+// Where a gate list leads: the list, the columns of its wires, their ready times, its cost, and how many heavy gates it still needs.
+pub struct Node {
+    pub columns: [u16; 5],
+    pub times: [u16; 5],
+    pub cost: u16,
+    pub path: [u8; 12],
+    pub len: usize,
+    pub needs: usize,
+}
+
+// A gate with its price and duration.
+pub struct Entry {
+    pub gate: u8,
+    pub price: u8,
+    pub duration: u8,
+}
+
+// Offers the list so far with one layout, if that is good.
+fn try_layout(task: Task, s: Node, p: u8, best: Best) -> Best
+    requires { ⌜ (s .len ≤ 12) × (best .len ≤ 12) ⌝ }
+    ensures { λ r. ⌜ ((P : Problem) → Asks P task → At P s → view r ≡ attempt (within P (task .«cost_limit»)) (view best) (choiceOf P (listOf s) p)) ⌝ }
+    ensures { λ r. ⌜ r .len ≤ 12 ⌝ }
+{
+    let wanted = task.wanted;
+    let columns = s.columns;
+    let times = s.times;
+    let depth = circuit::latest(times);
+    let cheap = logic::both(
+        s.cost as usize <= task.cost_limit,
+        depth as usize <= task.depth_limit,
+    );
+    if !logic::both(columns::met(wanted, columns, p), cheap) {
+        return best;
+    }
+    let path = s.path;
+    let mine = Best {
+        found: true,
+        cost: s.cost,
+        depth,
+        layout: p,
+        len: s.len,
+        path,
+    };
+    choice::offer(best, mine)
+}
+
+// Offers the list so far with each allowed layout.
+fn consider(task: Task, s: Node, best: Best) -> Best
+    requires { ⌜ Width (task .outputs) ⌝ }
+    requires { ⌜ (s .len ≤ 12) × (best .len ≤ 12) ⌝ }
+    ensures { λ r. ⌜ ((P : Problem) → Asks P task → At P s → view r ≡ improve (within P (task .«cost_limit»)) (view best) (here P (listOf s))) ⌝ }
+    ensures { λ r. ⌜ r .len ≤ 12 ⌝ }
+{
+    let count = table::layout_count(task.outputs, task.free);
+    let mut b = best;
+    let mut i = 0;
+    while i < count {
+        let p = table::layout_at(task.outputs, task.free, i);
+        let next = try_layout(task, s, p, b);
+        b = next;
+        i += 1;
+    }
+    b
+}
+
+// The same, where the outputs that every layout misses were counted: one of them is enough to pass the layouts over.
+fn consider_met(task: Task, s: Node, missing: usize, best: Best) -> Best
+    requires { ⌜ Width (task .outputs) ⌝ }
+    requires { ⌜ (s .len ≤ 12) × (best .len ≤ 12) ⌝ }
+    requires { ⌜ missing ≡ lost (task .wanted) (s .columns) (task .outputs) (task .free) ⌝ }
+    ensures { λ r. ⌜ ((P : Problem) → Asks P task → At P s → view r ≡ improve (within P (task .«cost_limit»)) (view best) (here P (listOf s))) ⌝ }
+    ensures { λ r. ⌜ r .len ≤ 12 ⌝ }
+{
+    if missing == 0 {
+        consider(task, s, best)
+    } else {
+        best
+    }
+}
+
+// The most that a list may cost to change what is held.
+fn cap(limit: usize, best: Best) -> usize
+    ensures { λ r. ⌜ ((P : Problem) (c : Choice) → r < c .cost → attempt (within P limit) (view best) c ≡ view best) ⌝ }
+{
+    let cost = best.cost as usize;
+    if best.found {
+        if cost < limit {
+            return cost;
+        }
+    }
+    limit
+}
+
+// The most gates that a list may go on by to change what is held: those that the cost left buys, with the heavy ones that it needs.
+fn affordable(task: Task, least: Least, s: Node, remaining: usize, best: Best) -> usize
+    requires { ⌜ (s .needs ≤ 12) × (least .extra ≤ 255) ⌝ }
+    ensures { λ r. ⌜ r ≤ remaining ⌝ }
+    ensures { λ r. ⌜ ((P : Problem) → Bounded P least → At P s → Enough P (task .«cost_limit») (listOf s) remaining r (view best)) ⌝ }
+{
+    let most = cap(task.cost_limit, best);
+    let cost = s.cost as usize;
+    if most < cost {
+        return 0;
+    }
+    if budget::unaffordable(least.extra, s.needs, most - cost) {
+        return 0;
+    }
+    budget::reach(least.low, least.extra, s.needs, most - cost, remaining)
+}
+
+// Whether a list of this cost and length, however it goes on, leaves what is held.
+fn dear(limit: usize, paid: usize, len: usize, best: Best) -> bool
+    ensures { λ r. ⌜ (r ≡ true → (P : Problem) (l : List ℕ) (k : ℕ) → paid ≡ cost (P .price) l → len ≡ length l → lookedUnder P limit l k (view best) ≡ view best) ⌝ }
+{
+    if limit < paid {
+        return true;
+    }
+    if !best.found {
+        return false;
+    }
+    let held = best.cost as usize;
+    if held == paid {
+        return best.len < len;
+    }
+    held < paid
+}
+
+// How many heavy gates each way to finish has at least, after gate `g` led to these columns; before it there were `needs`.
+fn still_needed(task: Task, least: Least, columns: [u16; 5], g: u8, needs: usize) -> usize
+    requires { ⌜ Width (task .outputs) × (needs ≤ 12) ⌝ }
+    ensures { λ r. ⌜ ((P : Problem) (l : List ℕ) → Asks P task → Among (P .gates) (l ++ (g ∷ [])) → columns ≡ columnsAfter (l ++ (g ∷ [])) startColumns → Needs P l needs → Needs P (l ++ (g ∷ [])) r) ⌝ }
+    ensures { λ r. ⌜ r ≤ 12 ⌝ }
+{
+    if least.extra == 0 {
+        return 0;
+    }
+    if !budget::heavy(g) {
+        return needs;
+    }
+    let wanted = task.wanted;
+    span::needed(wanted, columns, task.outputs)
+}
+
+// The node one gate further.
+fn advance(table: &[u16], task: Task, least: Least, s: Node, entry: Entry) -> Node
+    requires { ⌜ (length (now table) ≡ 40) × (lawful 2 5 (entry .gate) ≡ true) ⌝ }
+    requires { ⌜ Width (task .outputs) × (s .len < 12) ⌝ }
+    requires { ⌜ Small s ⌝ }
+    ensures { λ r. ⌜ (r .len ≡ s .len + 1) × Small r ⌝ }
+    ensures { λ r. ⌜ ((P : Problem) → Asks P task → At P s → Lists P entry → now (table .entry) ≡ tableOf (task .wanted) (s .columns) → Follows P s (entry .gate) r) ⌝ }
+{
+    let before = s.columns;
+    let columns = outputs::step(table, before, entry.gate);
+    let times = s.times;
+    let len = s.len;
+    let mut path = s.path;
+    path[len] = entry.gate;
+    Node {
+        columns,
+        times: circuit::hold(gate::decode(entry.gate), entry.duration, times),
+        cost: s.cost + entry.price as u16,
+        path,
+        len: len + 1,
+        needs: still_needed(task, least, columns, entry.gate, s.needs),
+    }
+}
+
+// Whether one gate of a node, where at most `most` gates may still come, can lead to something better than what is held.
+fn promising(table: &[u16], task: Task, s: Node, entry: Entry, most: usize, best: Best) -> bool
+    requires { ⌜ (length (now table) ≡ 40) × (lawful 2 5 (entry .gate) ≡ true) ⌝ }
+    requires { ⌜ Width (task .outputs) × ((s .len < 12) × (1 ≤ most)) ⌝ }
+    requires { ⌜ Small s ⌝ }
+    ensures { λ r. ⌜ ((P : Problem) (remaining : ℕ) → Asks P task → At P s → Lists P entry → now (table .entry) ≡ tableOf (task .wanted) (s .columns) → 1 ≤ remaining → Enough P (task .«cost_limit») (listOf s) remaining most (view best) → r ≡ false → Passed P (task .«cost_limit») s (entry .gate) remaining (view best)) ⌝ }
+{
+    let cost = s.cost as usize + entry.price as usize;
+    if dear(task.cost_limit, cost, s.len + 1, best) {
+        return false;
+    }
+    let wanted = task.wanted;
+    let columns = s.columns;
+    let next = outputs::step(table, columns, entry.gate);
+    if outputs::stuck(wanted, next, task.outputs, task.free, most - 1) {
+        return false;
+    }
+    // twelve gates of the greatest duration end by 3060, so a greater limit cuts nothing
+    if 3060 <= task.depth_limit {
+        return true;
+    }
+    let times = s.times;
+    let later = circuit::hold(gate::decode(entry.gate), entry.duration, times);
+    circuit::latest(later) as usize <= task.depth_limit
+}
+
+// What is held once every list that begins with the node's and goes on by at most `remaining` gates was looked at.
+fn dfs(
+    gates: &[u8],
+    prices: &[u8],
+    durations: &[u8],
+    task: Task,
+    least: Least,
+    s: Node,
+    remaining: usize,
+    best: Best,
+) -> Best
+    requires { ⌜ Slices (now gates) (now prices) (now durations) ⌝ }
+    requires { ⌜ Width (task .outputs) × (least .extra ≤ 255) ⌝ }
+    requires { ⌜ (s .len + remaining ≤ 12) × (best .len ≤ 12) ⌝ }
+    requires { ⌜ Small s ⌝ }
+    ensures { λ r. ⌜ ((P : Problem) → Posed P task (now (gates .entry)) (now (prices .entry)) (now (durations .entry)) → Bounded P least → At P s → view r ≡ lookedUnder P (task .«cost_limit») (listOf s) remaining (view best)) ⌝ }
+    ensures { λ r. ⌜ r .len ≤ 12 ⌝ }
+{
+    let most = affordable(task, least, s, remaining, best);
+    let wanted = task.wanted;
+    let columns = s.columns;
+    let plan = outputs::plan_of(wanted, columns, task.outputs, task.free);
+    if logic::either(most < plan.lost, most < s.needs) {
+        return best;
+    }
+    let mut b = consider_met(task, s, plan.lost, best);
+    if most == 0 {
+        return b;
+    }
+    let table = outputs::table_of(wanted, columns);
+    let mut i = 0;
+    while i < gates.len() {
+        let g = gates[i];
+        if outputs::worth(&table, plan, task.outputs, task.free, g, most) {
+            let entry = Entry {
+                gate: g,
+                price: prices[i],
+                duration: durations[i],
+            };
+            if promising(&table, task, s, entry, most, b) {
+                let node = advance(&table, task, least, s, entry);
+                let found = dfs(
+                    gates,
+                    prices,
+                    durations,
+                    task,
+                    least,
+                    node,
+                    remaining - 1,
+                    b,
+                );
+                b = found;
+            }
+        }
+        i += 1;
+    }
+    b
+}
+
+// The node of the empty list.
+fn root(needs: usize) -> Node
+    requires { ⌜ needs ≤ 12 ⌝ }
+    ensures { λ r. ⌜ (r .len ≡ 0) × Small r ⌝ }
+    ensures { λ r. ⌜ ((P : Problem) → Needs P [] needs → At P r) ⌝ }
+{
+    Node {
+        columns: columns::start_columns(),
+        times: [0u16; 5],
+        cost: 0,
+        path: [0u8; 12],
+        len: 0,
+        needs,
+    }
+}
+
+// One search: the first of the lists that cost at most the task's limit and have at most `most` gates.
+fn run(gates: &[u8], prices: &[u8], durations: &[u8], task: Task, least: Least, most: usize) -> Best
+    requires { ⌜ Slices (now gates) (now prices) (now durations) ⌝ }
+    requires { ⌜ Ready task least × (most ≤ 12) ⌝ }
+    ensures { λ r. ⌜ ((P : Problem) → Posed P task (now (gates .entry)) (now (prices .entry)) (now (durations .entry)) → Bounded P least → view r ≡ lookedUnder P (task .«cost_limit») [] most none) ⌝ }
+    ensures { λ r. ⌜ r .len ≤ 12 ⌝ }
+{
+    dfs(
+        gates,
+        prices,
+        durations,
+        task,
+        least,
+        root(least.needs),
+        most,
+        choice::nothing(),
+    )
+}
+
+// Deepening on gates: one gate more until a search finds something.
+fn fewest(
+    gates: &[u8],
+    prices: &[u8],
+    durations: &[u8],
+    task: Task,
+    least: Least,
+    from: usize,
+    most: usize,
+) -> Best
+    requires { ⌜ Slices (now gates) (now prices) (now durations) ⌝ }
+    requires { ⌜ Ready task least × ((from ≤ most) × (most ≤ 12)) ⌝ }
+    ensures { λ r. ⌜ ((P : Problem) → Posed P task (now (gates .entry)) (now (prices .entry)) (now (durations .entry)) → Bounded P least → task .«cost_limit» ≤ P .mostCost → most ≤ P .mostGates → Past P (task .«cost_limit») from → Deepened P (task .«cost_limit») most r) ⌝ }
+    ensures { λ r. ⌜ r .len ≤ 12 ⌝ }
+{
+    let mut g = from;
+    while g < most {
+        let b = run(gates, prices, durations, task, least, g);
+        if b.found {
+            return b;
+        }
+        g += 1;
+    }
+    run(gates, prices, durations, task, least, most)
+}
+
+// The search at one cost, the task's limit: the counts of gates from `from` up to what the cost buys.
+fn at_cost(
+    gates: &[u8],
+    prices: &[u8],
+    durations: &[u8],
+    task: Task,
+    least: Least,
+    from: usize,
+) -> Best
+    requires { ⌜ Slices (now gates) (now prices) (now durations) ⌝ }
+    requires { ⌜ Ready task least × (task .«gate_limit» ≤ 12) ⌝ }
+    ensures { λ r. ⌜ ((P : Problem) → Posed P task (now (gates .entry)) (now (prices .entry)) (now (durations .entry)) → Bounded P least → task .«cost_limit» ≤ P .mostCost → task .«gate_limit» ≡ P .mostGates → Past P (task .«cost_limit») from → Priced P (task .«cost_limit») r) ⌝ }
+    ensures { λ r. ⌜ r .len ≤ 12 ⌝ }
+{
+    let most = budget::reach(
+        least.low,
+        least.extra,
+        least.needs,
+        task.cost_limit,
+        task.gate_limit,
+    );
+    if most < from {
+        return choice::nothing();
+    }
+    fewest(gates, prices, durations, task, least, from, most)
+}
+
+// Whether some list may cost `c`; costs past the end of the marks are not ruled out.
+fn achievable(marks: &[u8], c: usize) -> bool
+    ensures { λ r. ⌜ (r ≡ false → (c < length (now (marks .entry))) × (getD (now (marks .entry)) c 0 ≡ 0)) ⌝ }
+{
+    if c < marks.len() { marks[c] != 0 } else { true }
+}
+
+fn limited_to(task: Task, limit: usize) -> Task
+    ensures { λ r. ⌜ r ≡ limitedTo task limit ⌝ }
+{
+    let wanted = task.wanted;
+    Task {
+        wanted,
+        outputs: task.outputs,
+        free: task.free,
+        gate_limit: task.gate_limit,
+        cost_limit: limit,
+        depth_limit: task.depth_limit,
+    }
+}
+
+// Deepening on cost: the sums of prices below the cost of what is held, rising.
+fn cheaper(
+    gates: &[u8],
+    prices: &[u8],
+    durations: &[u8],
+    task: Task,
+    least: Least,
+    marks: &[u8],
+    held: Best,
+) -> Best
+    requires { ⌜ Slices (now gates) (now prices) (now durations) ⌝ }
+    requires { ⌜ Ready task least × (task .«gate_limit» ≤ 12) ⌝ }
+    requires { ⌜ Marked (now prices) (task .«gate_limit») (now marks) ⌝ }
+    requires { ⌜ (held .found ≡ true) × (held .len ≤ 12) ⌝ }
+    ensures { λ r. ⌜ ((P : Problem) → Posed P task (now (gates .entry)) (now (prices .entry)) (now (durations .entry)) → Bounded P least → Limited P task → Shortest P (P .mostCost) (view held) (held .len) → view r ≡ firstGood P) ⌝ }
+    ensures { λ r. ⌜ r .len ≤ 12 ⌝ }
+{
+    let mut c = 0;
+    while c < held.cost as usize {
+        if achievable(marks, c) {
+            let b = at_cost(
+                gates,
+                prices,
+                durations,
+                limited_to(task, c),
+                least,
+                held.len,
+            );
+            if b.found {
+                return b;
+            }
+        }
+        c += 1;
+    }
+    held
+}
+
+// What every list of these gates has and costs at least.
+fn least_of(gates: &[u8], prices: &[u8], task: Task) -> Least
+    requires { ⌜ Width (task .outputs) ⌝ }
+    ensures { λ r. ⌜ Ready task r ⌝ }
+    ensures { λ r. ⌜ ((P : Problem) (durations : List ℕ) → length (now (prices .entry)) ≡ length (now (gates .entry)) → Posed P task (now (gates .entry)) (now (prices .entry)) durations → Bounded P r) ⌝ }
+{
+    let low = budget::low(prices);
+    let wanted = task.wanted;
+    Least {
+        low,
+        extra: budget::extra(gates, prices, low),
+        needs: span::needed(wanted, columns::start_columns(), task.outputs),
+    }
+}
+
+// The first good choice of every problem that the slices and the task pose. Feasibility first: with no limit on cost but the task's, the
+// fewest gates; what that finds caps the costs to try.
+pub fn solve(gates: &[u8], prices: &[u8], durations: &[u8], task: Task) -> Best
+    requires { ⌜ Slices (now gates) (now prices) (now durations) ⌝ }
+    requires { ⌜ Width (task .outputs) × (task .«gate_limit» ≤ 12) ⌝ }
+    ensures { λ r. ⌜ ((P : Problem) → Posed P task (now (gates .entry)) (now (prices .entry)) (now (durations .entry)) → Limited P task → view r ≡ firstGood P) ⌝ }
+    ensures { λ r. ⌜ r .len ≤ 12 ⌝ }
+{
+    let least = least_of(gates, prices, task);
+    let held = fewest(gates, prices, durations, task, least, 0, task.gate_limit);
+    if !held.found {
+        return held;
+    }
+    let mut marks = [0u8; 3061];
+    budget::mark(prices, task.gate_limit, &mut marks);
+    cheaper(gates, prices, durations, task, least, &marks, held)
+}

@@ -1,0 +1,40 @@
+-- What a table asks for, row by row, and when a gate list and a layout realize it (document 01: meet it): for a list of any length.
+use mathlib.Core.Bool.{Bool, true}
+use mathlib.Core.List.{List, [], _∷_}
+use Prim.Native.Nat.{ℕ, suc, _/_, _%_, _^_}
+use lib.Bits.{bitAnd}
+use lib.Dec.{ltb, eqb}
+use Rattle.logic.specs.Rules.{both, implies, allBelow}
+use Rattle.logic.specs.Bit.{bitOf}
+use Rattle.circuit.specs.Run.{forwards}
+use Rattle.table.specs.Layouts.{wireOf}
+
+-- "one byte a row: wanted-bits mask in the high four bits, value in the low four"; the care mask is the wanted-bits mask
+abbrev pub careOf : ℕ → ℕ
+careOf row = row / 16
+
+abbrev pub valueOf : ℕ → ℕ
+valueOf row = row % 16
+
+-- "A value bit outside the mask is 0. With n = 3, bit 3 of both is 0."
+unfoldable pub rowOk : ℕ → ℕ → Bool
+rowOk n row = both (eqb (bitAnd (careOf row) (valueOf row)) (valueOf row)) (both (ltb (careOf row) (2 ^ n)) (ltb (valueOf row) (2 ^ n)))
+
+-- "for each row and each wanted bit j, the end value of the wire placed for j equals value bit j"
+unfoldable pub bitAgrees : ℕ → ℕ → ℕ → ℕ → Bool
+bitAgrees p row v j = implies (eqb (bitOf j (careOf row)) 1) (eqb (bitOf (wireOf p j) v) (bitOf j (valueOf row)))
+
+unfoldable pub rowAgrees : ℕ → ℕ → ℕ → Bool
+rowAgrees p row v = allBelow 4 (bitAgrees p row v)
+
+-- the rows from number x on agree with the end values that `ends` gives each row number
+unfoldable pub agreesFrom : ℕ → (ℕ → ℕ) → ℕ → List ℕ → Bool
+agreesFrom p ends x [] = true
+agreesFrom p ends x (row ∷ rows) = both (rowAgrees p row (ends x)) (agreesFrom p ends (suc x) rows)
+
+abbrev pub agrees : ℕ → (ℕ → ℕ) → List ℕ → Bool
+agrees p ends rows = agreesFrom p ends 0 rows
+
+-- document 01's "meets": row x starts with the value x
+unfoldable pub realizes : List ℕ → ℕ → List ℕ → Bool
+realizes rows p gs = agrees p (forwards gs) rows

@@ -1,0 +1,27 @@
+-- Demand 2's words on the judge, field by field: what a circuit that passes for a job has, and what a pair that has it all passes by.
+use mathlib.Core.Path.{_≡_}
+use mathlib.Core.Bool.{true}
+use mathlib.Core.List.{List}
+use Prim.Native.Nat.{ℕ, _≤_}
+use lib.ListN.{length}
+use Rattle.circuit.specs.Measure.{cost, depth}
+use Rattle.table.specs.Layouts.{allowed}
+use Rattle.table.specs.Rows.{realizes}
+use Rattle.record.specs.Jobs.{dataWires, ancillas, freeLayout, gateLimit, costLimit, depthLimit, priceOf, durationOf, rows, jobCode}
+use Rattle.record.specs.Circuits.{layoutOf, gates, circuitCode}
+
+pub record Passes (job c : List ℕ) : Type 0 where
+  -- "after the job's checks and then the circuit's"
+  pub job-sound : jobCode job ≡ 0
+  pub circuit-sound : circuitCode c ≡ 0
+  -- "same n and m"
+  pub same-data : dataWires job ≡ dataWires c
+  pub same-ancillas : ancillas job ≡ ancillas c
+  -- "Placing allowed"
+  pub laid-out : allowed (dataWires job) (freeLayout job) (layoutOf c) ≡ true
+  -- "Table met"
+  pub realized : realizes (rows job) (layoutOf c) (gates c) ≡ true
+  -- "within all limits (each limit is itself allowed)"
+  pub gates-within : length (gates c) ≤ gateLimit job
+  pub cost-within : cost (priceOf job) (gates c) ≤ costLimit job
+  pub depth-within : depth (durationOf job) (gates c) ≤ depthLimit job

@@ -176,8 +176,6 @@ def check_circuit(circuit):
         return 9
     if circuit[2] != len(circuit) - 3:
         return 10
-    if circuit[2] > GATES_AT_MOST:      # cannot happen after 7 and 10
-        return 11
     if not all(lawful(gate, n + m) for gate in circuit[3:]):
         return 21
     return 0

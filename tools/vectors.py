@@ -3,7 +3,7 @@
     vectors.py DATA STDOUT NAME...
 
 writes DATA/NAME for every name, and into STDOUT the expected output of all of
-them, one after another in the order named. Names: jobs circuits running
+them, one after another in the order named. Names: jobs circuits counts running
 measuring verifying parity. Nothing is written unless `self_check` passes.
 
 A data file has one call a line, its words one space apart. Byte strings are
@@ -11,6 +11,7 @@ upper-case hexadecimal, the empty one is `-`. A line that starts with `#` is a
 heading and is printed as it is.
 
     job HEX | circuit HEX               sound
+    every HEX                           codes, and the code of the circuit with each count byte, 0 to 255
     forwards HEX VV | backwards HEX VV  value VV
     measure JOB CIRCUIT | verify ..     within GATES COST DEPTH (decimal)
     parity JOB                          even | odd | neither
@@ -29,7 +30,7 @@ import reference as ref
 FILE_BELOW = 48 * 1024
 LINE_BELOW = 8000
 # The rules in the order in which they are asked; the first one broken is told.
-ORDER = [1, 2, 3, 4, 5, 6, 7, 8, 9, 10, 11, 21, 12, 15, 16, 17, 18, 19]
+ORDER = [1, 2, 3, 4, 5, 6, 7, 8, 9, 10, 21, 12, 15, 16, 17, 18, 19]
 SHAPES = [(3, 0), (3, 1), (4, 0), (4, 1)]       # n and m
 GATES = {wires: ref.gate_table(wires) for wires in (3, 4, 5)}
 
@@ -149,6 +150,9 @@ def answer(line):
         code, text = ref.check_job(args[0]), "sound"
     elif name == "circuit":
         code, text = ref.check_circuit(args[0]), "sound"
+    elif name == "every":
+        codes = [ref.check_circuit(put(args[0], 2, count)) for count in range(256)]
+        return " ".join(["codes"] + [str(code) for code in codes])
     elif name in ("forwards", "backwards"):
         along = ref.run if name == "forwards" else ref.undo
         code, value = ref.run_call(args[0], args[1][0], along)
@@ -216,7 +220,7 @@ def job_breaks(n):
 
 
 def circuit_breaks(n, m):
-    """The same for a circuit of three gates or more. Code 11 cannot be had."""
+    """The same for a circuit of three gates or more. The number 11 is unused."""
     layouts = (0x00, 0x1B, 0x3C, 0x19) if n == 3 else (0x00, 0x18, 0x1A, 0x5B)
     firsts = (0x20, n << 5 | 16, n << 5 | 1, n << 5 | 12)
     three_controls = 0x67 if n + m > 3 else 0x47
@@ -352,7 +356,7 @@ def circuit_lengths(calls):
     calls.add(7, "circuit", bytes([0x60, 0x18, 0]) + bytes(256))
     calls.add(7, "circuit", bytes([0x60, 0x18, 12]) + bytes(268))
     calls.add(7, "circuit", C3 * 200)
-    calls.heading("circuit: more than 12 gates never get as far as code 11")
+    calls.heading("circuit: more than 12 gates")
     calls.add(7, "circuit", circuit(3, 0, bytes(13)))
     calls.add(10, "circuit", put(circuit(3, 0, bytes(12)), 2, 13))
 
@@ -378,6 +382,16 @@ def circuit_head(calls):
             for count in sorted(near | {0, 12, 13, 15, 255}):
                 calls.add("sound" if count == length else 10, "circuit",
                           put(record, 2, count))
+
+
+def circuit_counts(calls):
+    calls.heading("circuit: every count byte, lengths 3 to 16; the codes are 0, 7 and 10")
+    for n, m in ((3, 0), (4, 1)):
+        gates = (GATES[n + m] * 2)[:13]
+        for length in range(3, 17):
+            want = [7 if length > 15 else 0 if count == length - 3 else 10 for count in range(256)]
+            record = circuit(n, m, gates[:length - 3])
+            calls.add(" ".join(["codes"] + [str(code) for code in want]), "every", record)
 
 
 def built_gates(wires):
@@ -825,7 +839,7 @@ def verify_drawn(calls):
 
 def verify_refused(calls):
     pair_shapes(calls, "verify")
-    pair_order(calls, "verify", [code for code in ORDER if code != 11])
+    pair_order(calls, "verify", ORDER)
     pair_lengths(calls, "verify")
 
 
@@ -1064,6 +1078,7 @@ def self_check():
 MAKERS = {
     "jobs": [job_lengths, job_sound, job_byte_0, job_numbers, job_rows, job_order],
     "circuits": [circuit_lengths, circuit_head, circuit_gates, circuit_order],
+    "counts": [circuit_counts],
     "running": [run_few, run_ends, run_each_gate, run_lists],
     "measuring": [measure_few, measure_ends, measure_drawn, measure_refused],
     "verifying": [verify_few, verify_limits, verify_rows, verify_layouts,

@@ -1,4 +1,4 @@
--- An answer by its code: which one it is, and what an answer that is no refusal says of the code.
+-- An answer by its code: which one it is, and what an answer says of the code.
 use mathlib.Core.Path.{_≡_}
 use Prim.Native.Nat.{ℕ}
 use native.Mathlib.Decide.{ℕ-discrete}
@@ -19,3 +19,10 @@ module _ {A : Type 0} (code : ℕ) (value : A) where
       by-code : Dec (code ≡ 0) → (code ≡ 0) × (v ≡ value)
       by-code (yes e) = let w = rw (eq-eqb code 0 e) at h in (e, cc)
       by-code (no n) = let w = rw (ne-eqb code 0 n) at h in let z : _≡_ {A = ℕ} 0 1 = cc in absurd (omega arith)
+
+  pub refused-is : (n : ℕ) → answerOf code value ≡ refused n → code ≡ n
+  refused-is n h = by-code (ℕ-discrete code 0)
+    where
+      by-code : Dec (code ≡ 0) → code ≡ n
+      by-code (yes e) = let w = rw (eq-eqb code 0 e) at h in let z : _≡_ {A = ℕ} 0 1 = cc in absurd (omega arith)
+      by-code (no d) = let w = rw (ne-eqb code 0 d) at h in cc

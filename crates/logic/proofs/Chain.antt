@@ -6,6 +6,7 @@ use Prim.Native.Nat.{ℕ, _<_}
 use native.Mathlib.Decide.{ℕ-discrete}
 use native.Mathlib.Omega.{arith}
 use borrow.Author.Tests.{eq-eqb, ne-eqb}
+use lib.Dec.{eqb}
 use Rattle.logic.specs.Rules.{both, either, implies, rule, andThen}
 
 pub both-left : (a b : Bool) → both a b ≡ true → a ≡ true
@@ -57,6 +58,14 @@ implied false b h e = absurd (false≢true e)
 pub rule-kept : (kept : Bool) (code rest : ℕ) → 0 < code → rule kept code rest ≡ 0 → (kept ≡ true) × (rest ≡ 0)
 rule-kept true code rest p h = (refl, h)
 rule-kept false code rest p h = absurd (omega arith)
+
+-- a number that no rule of a list has, the list does not give
+pub rule-never : (n : ℕ) (kept : Bool) (code rest : ℕ) → (code ≡ n → ⊥) → (rest ≡ n → ⊥) → rule kept code rest ≡ n → ⊥
+rule-never n true code rest c r h = r h
+rule-never n false code rest c r h = c h
+
+pub and-then-never : (n code rest : ℕ) → (code ≡ n → ⊥) → (rest ≡ n → ⊥) → andThen code rest ≡ n → ⊥
+and-then-never n code rest c r h = rule-never n (eqb code 0) code rest c r h
 
 pub and-then-zero : (code rest : ℕ) → andThen code rest ≡ 0 → (code ≡ 0) × (rest ≡ 0)
 and-then-zero code rest h = by-code (ℕ-discrete code 0)

@@ -19,7 +19,7 @@ use Rattle.table.specs.Layouts.{Width, layoutOk}
 use Rattle.table.specs.Rows.{rowOk}
 use Rattle.record.specs.Jobs.{dataWires, ancillas, wires, gateLimit, durations, durationOf, rows}
 use Rattle.record.specs.Jobs.{jobLengthOk, sizeOk, headOk, limitOk, durationsOk, rowsOk, jobCode}
-use Rattle.record.specs.Circuits.{layoutOf, gates, circuitLengthOk, shapeOk, layoutInOrder, countOk, countSmall, gatesOk, circuitCode}
+use Rattle.record.specs.Circuits.{layoutOf, gates, circuitLengthOk, shapeOk, layoutInOrder, countOk, gatesOk, circuitCode}
 use Rattle.record.specs.Inner.{jobRest, circuitRest}
 
 pub record SoundJob (job : List ℕ) : Type 0 where
@@ -89,7 +89,7 @@ module _ (c : List ℕ) where
   unfolding circuitLengthOk
   long-enough h = leb-true 3 (length c) (both-left (leb 3 (length c)) (leb (length c) 15) h)
 
-  short-enough : circuitLengthOk c ≡ true → length c ≤ 15
+  pub short-enough : circuitLengthOk c ≡ true → length c ≤ 15
   unfolding circuitLengthOk
   short-enough h = leb-true (length c) 15 (both-right (leb 3 (length c)) (leb (length c) 15) h)
 
@@ -107,8 +107,7 @@ module _ (c : List ℕ) where
       let k₂ = rule-kept (shapeOk c) 8 (circuitRest c) (lit< tt) (k₁ .1) in
       let k₃ = rule-kept (layoutInOrder c) 9 _ (lit< tt) (k₂ .1) in
       let k₄ = rule-kept (countOk c) 10 _ (lit< tt) (k₃ .1) in
-      let k₅ = rule-kept (countSmall c) 11 _ (lit< tt) (k₄ .1) in
-      let k₆ = rule-kept (gatesOk c) 21 0 (lit< tt) (k₅ .1) in
+      let k₅ = rule-kept (gatesOk c) 21 0 (lit< tt) (k₄ .1) in
       let d = either (eqb (dataWires c) 3) (eqb (dataWires c) 4) in
       let m = leb (ancillas c) 1 in
       record {
@@ -116,7 +115,7 @@ module _ (c : List ℕ) where
         spare = leb-true (ancillas c) 1 (both-left m (eqb (getD c 0 0 % 8) 0) (both-right d (both m (eqb (getD c 0 0 % 8) 0)) (k₂ .0)));
         laid-out = k₃ .0;
         few = omega (arith, short-enough (k₁ .0), length-drop 3 c);
-        kept = k₆ .0;
+        kept = k₅ .0;
       }
 
 -- a record has three to five wires

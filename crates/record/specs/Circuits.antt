@@ -35,20 +35,15 @@ layoutInOrder c = layoutOk (dataWires c) (layoutOf c)
 abbrev pub countOk : List ℕ → Bool
 countOk c = eqb (countOf c) (length c - 3)
 
--- "Is the count at most 12? If not, 11."
-abbrev pub countSmall : List ℕ → Bool
-countSmall c = leb (countOf c) 12
-
 -- "Is each gate lawful for W? If not, 21."
 abbrev pub gatesOk : List ℕ → Bool
 gatesOk c = allOf (lawful 2 (wires c)) (gates c)
 
--- the code of the first rule broken, or 0
+-- the code of the first rule broken, or 0; the number 11 is reserved and unused (document 02, slip 9)
 unfoldable pub circuitCode : List ℕ → ℕ
 circuitCode c =
     rule (circuitLengthOk c) 7
     (rule (shapeOk c) 8
     (rule (layoutInOrder c) 9
     (rule (countOk c) 10
-    (rule (countSmall c) 11
-    (rule (gatesOk c) 21 0)))))
+    (rule (gatesOk c) 21 0))))

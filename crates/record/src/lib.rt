@@ -8,7 +8,7 @@ ghost use Rattle.gate.specs.Gates.{lawful};
 ghost use Rattle.table.specs.Layouts.{Width};
 ghost use Rattle.record.specs.Jobs.{dataWires, ancillas, wires, freeLayout, gateLimit, word, costLimit, depthLimit, weightsAt};
 ghost use Rattle.record.specs.Jobs.{prices, durations, rows, jobLengthOk, sizeOk, headOk, limitOk, durationsOk, rowsOk, jobCode};
-ghost use Rattle.record.specs.Circuits.{layoutOf, countOf, gates, circuitLengthOk, shapeOk, gatesOk, circuitCode};
+ghost use Rattle.record.specs.Circuits.{layoutOf, countOf, gates, circuitLengthOk, shapeOk, countOk, gatesOk, circuitCode};
 ghost use Rattle.record.specs.Answers.{checkedAnswer, checkOf};
 ghost use Rattle.record.specs.Inner.{jobRest, circuitRest};
 
@@ -244,18 +244,25 @@ fn count_of(c: &[u8]) -> usize
     logic::wide(logic::at(c, 2))
 }
 
+// Whether the count byte is the length less 3.
+fn count_ok(c: &[u8]) -> bool
+    requires { ⌜ 3 ≤ length (now c) ⌝ }
+    ensures { λ r. ⌜ r ≡ countOk (now (c .entry)) ⌝ }
+{
+    count_of(c) == c.len() - 3
+}
+
 // The rules of a circuit after its length and its byte 0.
 fn circuit_rest(c: &[u8]) -> u8
     requires { ⌜ 3 ≤ length (now c) ⌝ }
     requires { ⌜ Width (dataWires (now c)) ⌝ }
     ensures { λ r. ⌜ r ≡ circuitRest (now (c .entry)) ⌝ }
 {
-    let count = count_of(c);
-    let rest = logic::rule(count <= 12, 11, logic::rule(gates_ok(c), 21, 0));
+    let rest = logic::rule(gates_ok(c), 21, 0);
     logic::rule(
         table::layout_ok(data_wires(c), layout_of(c)),
         9,
-        logic::rule(count == c.len() - 3, 10, rest),
+        logic::rule(count_ok(c), 10, rest),
     )
 }
 

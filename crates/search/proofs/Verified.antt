@@ -113,7 +113,6 @@ module _ (job : List ℕ) (sound : jobCode job ≡ 0) where
             shape-kept,
             layout-kept,
             eq-eqb (countOf bytes) (length bytes - 3) count-kept,
-            le-leb (countOf bytes) 12 (subst (λ (n : ℕ). n ≤ 12) (sym counted) few),
             gates-kept,
           )
 

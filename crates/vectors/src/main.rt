@@ -15,6 +15,7 @@ ghost use Rattle.io.specs.Counts.{Counts};
 fn main() {
     run_file(b"jobs");
     run_file(b"circuits");
+    run_file(b"counts");
     run_file(b"running");
     run_file(b"measuring");
     run_file(b"verifying");
@@ -93,6 +94,7 @@ fn is_name(letter: u8, name: &[u8]) -> bool {
     match letter {
         b'j' => same(name, b"job"),
         b'c' => same(name, b"circuit"),
+        b'e' => same(name, b"every"),
         b'f' => same(name, b"forwards"),
         b'b' => same(name, b"backwards"),
         b'm' => same(name, b"measure"),
@@ -180,6 +182,7 @@ fn dispatch(letter: u8, first: &[u8], second: &[u8]) {
     match letter {
         b'j' => say_checked(record::check_job(first)),
         b'c' => say_checked(record::check_circuit(first)),
+        b'e' => say_every(first),
         b'f' => say_ran(verify::run_forwards(first, logic::at(second, 0))),
         b'b' => say_ran(verify::run_backwards(first, logic::at(second, 0))),
         b'm' => say_measured(verify::measure(first, second)),
@@ -196,6 +199,47 @@ fn say_checked(answer: Checked) {
         Checked::Refused(code) => say_refused(code),
         Checked::Sound => say(b"sound"),
     }
+}
+
+// What becomes of a circuit of up to 16 bytes with each count byte from 0 to 255: the code of each, 0 for a sound one.
+fn say_every(circuit: &[u8]) {
+    let mut record = [0u8; 16];
+    let n = copy_in(circuit, &mut record);
+    say(b"codes");
+    let mut count: usize = 0;
+    while count < 256 {
+        say_with(record, n, (count % 256) as u8);
+        count += 1;
+    }
+}
+
+// The code of the first `n` bytes of a record, with another count byte.
+fn say_with(record: [u8; 16], n: usize, count: u8) {
+    let mut changed = record;
+    changed[2] = count;
+    say(b" ");
+    say_code(&changed, n);
+}
+
+fn say_code(circuit: &[u8], n: usize) {
+    if n <= circuit.len() {
+        io::print_decimal(STDOUT_FILENO, record::circuit_code(&circuit[..n]) as u64);
+    }
+}
+
+// Copies as many bytes as fit, and answers how many.
+fn copy_in(bytes: &[u8], out: &mut [u8; 16]) -> usize
+    ensures { λ r. ⌜ r ≤ 16 ⌝ }
+{
+    let mut i = 0;
+    while i < bytes.len() {
+        if 16 <= i {
+            return i;
+        }
+        out[i] = bytes[i];
+        i += 1;
+    }
+    i
 }
 
 fn say_ran(answer: Ran) {

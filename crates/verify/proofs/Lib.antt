@@ -1,3 +1,4 @@
 pub mod Codes
 pub mod Pass
 pub mod Bounds
+pub mod Eleven

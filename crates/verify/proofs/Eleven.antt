@@ -1,0 +1,56 @@
+-- No call that takes a circuit refuses with 11, whatever bytes it is handed.
+use mathlib.Core.Path.{_≡_}
+use mathlib.Core.Bool.{Bool}
+use mathlib.Core.List.{List}
+use Prim.Native.Nat.{ℕ, _^_}
+use native.Mathlib.Omega.{arith}
+use lib.Dec.{ltb, leb}
+use Rattle.logic.specs.Rules.{pick}
+use Rattle.logic.specs.Answers.{refused}
+use Rattle.logic.proofs.Answers.{refused-is}
+use Rattle.logic.proofs.Chain.{rule-never, and-then-never}
+use Rattle.circuit.specs.Run.{forwards, backwards}
+use Rattle.table.specs.Layouts.{allowed}
+use Rattle.table.specs.Rows.{agrees}
+use Rattle.record.specs.Jobs.{dataWires, wires, freeLayout, gateLimit, costLimit, depthLimit, rows, jobCode}
+use Rattle.record.specs.Circuits.{layoutOf, gates, circuitCode}
+use Rattle.record.proofs.Eleven.{circuit-never, job-never}
+use Rattle.verify.specs.Calls.{runCode, runOf, measuresFor, sameWires, measureCode, measureOf, limitsCode, verifyRest, verifyCode, verifyOf}
+
+pub run-never : (forth : Bool) (c : List ℕ) (v : ℕ) → runOf forth c v ≡ refused 11 → ⊥
+unfolding runOf runCode
+run-never forth c v h =
+    and-then-never 11 (circuitCode c) _ (circuit-never c) (rule-never 11 (ltb v (2 ^ wires c)) 20 0 (λ e. omega arith) (λ e. omega arith))
+    (refused-is (runCode c v) (pick forth (forwards (gates c) v) (backwards (gates c) v)) 11 h)
+
+module _ (job c : List ℕ) where
+  measure-code-never : measureCode job c ≡ 11 → ⊥
+  unfolding measureCode
+  measure-code-never =
+      and-then-never 11 (jobCode job) _ (job-never job)
+      (and-then-never 11 (circuitCode c) _ (circuit-never c)
+      (rule-never 11 (sameWires job c) 12 0 (λ e. omega arith) (λ e. omega arith)))
+
+  limits-never : limitsCode job c ≡ 11 → ⊥
+  unfolding limitsCode
+  limits-never =
+      let m = measuresFor job c in
+      rule-never 11 (leb (m .gates) (gateLimit job)) 17 _ (λ e. omega arith)
+      (rule-never 11 (leb (m .cost) (costLimit job)) 18 _ (λ e. omega arith)
+      (rule-never 11 (leb (m .depth) (depthLimit job)) 19 0 (λ e. omega arith) (λ e. omega arith)))
+
+  rest-never : verifyRest job c ≡ 11 → ⊥
+  unfolding verifyRest
+  rest-never =
+      rule-never 11 (allowed (dataWires job) (freeLayout job) (layoutOf c)) 15 _ (λ e. omega arith)
+      (rule-never 11 (agrees (layoutOf c) (forwards (gates c)) (rows job)) 16 _ (λ e. omega arith) limits-never)
+
+  pub measure-never : measureOf job c ≡ refused 11 → ⊥
+  unfolding measureOf
+  measure-never h = measure-code-never (refused-is (measureCode job c) (measuresFor job c) 11 h)
+
+  pub verify-never : verifyOf job c ≡ refused 11 → ⊥
+  unfolding verifyOf verifyCode
+  verify-never h =
+      and-then-never 11 (measureCode job c) (verifyRest job c) measure-code-never rest-never
+      (refused-is (verifyCode job c) (measuresFor job c) 11 h)

@@ -2,83 +2,51 @@
 use mathlib.Core.Path.{_≡_, refl, sym, ap, ap₂, _∙_}
 use mathlib.Core.Bool.{Bool, true}
 use mathlib.Core.List.{List}
-use Prim.Native.Nat.{ℕ, _<_}
+use Prim.Native.Nat.{ℕ, zero, suc, _*_, _<_}
 use native.Mathlib.Decide.{ℕ-discrete}
 use native.Mathlib.Omega.{arith}
 use borrow.Author.Tests.{eqb-true, ltb-true, eq-eqb, ne-eqb}
 use lib.Dec.{eqb, ltb}
-use lib.Bits.{bitAnd, bitXor}
-use lib.Count.{ones, onesIn, trailingZeros, leadingZeros}
+use lib.Bits.{bitAnd, bitXor, and-zero-l}
 use lib.ListN.{length, getD, length-set}
 use lib.Seq.{getD-set-same, getD-set-other}
-use Rattle.logic.specs.Rules.{both, implies, allBelow, pick}
+use Rattle.logic.specs.Rules.{both, pick}
 use Rattle.logic.specs.Bit.{bitOf}
-use Rattle.logic.proofs.Chain.{both-left, both-right, implied}
+use Rattle.logic.proofs.Chain.{both-left, both-right}
 use Rattle.logic.proofs.Below.{below}
 use Rattle.logic.proofs.Bits.{bit-xor, bit-and}
 use Rattle.gate.specs.declared.Gate.{Gate}
 use Rattle.gate.specs.declared.Kind.{Kind}
 use Rattle.gate.specs.declared.Kind.the-variants.{Not, Cnot, Toffoli}
 use Rattle.gate.specs.Gates.{targetOf, lawful, step, gateOf}
+use Rattle.gate.specs.Published.{added}
 use Rattle.gate.specs.Inner.{firing, columnStep}
-use Rattle.gate.proofs.Widen.{parts, lawful-lt}
+use Rattle.gate.proofs.Widen.{parts}
+use Rattle.gate.proofs.Published.{inside, wires-inside, bit-after}
 
 -- row x of the columns is the value v
 abbrev pub Row : List ℕ → ℕ → ℕ → Type 0
 Row cs x v = (w : ℕ) → w < 5 → bitOf x (getD cs w 0) ≡ bitOf w v
 
--- what the controls say of one value
-abbrev controls : Kind → ℕ → ℕ
-controls Not v = 1
-controls (Cnot a) v = bitOf a v
-controls (Toffoli a b) v = bitAnd (bitOf a v) (bitOf b v)
-
-abbrev inside : Kind → Bool
-inside Not = true
-inside (Cnot a) = ltb a 5
-inside (Toffoli a b) = both (ltb a 5) (ltb b 5)
-
-abbrev after : ℕ → ℕ → ℕ → ℕ
-after b v w = pick (eqb w (targetOf b)) (bitXor (bitOf w v) (controls (gateOf b .kind) v)) (bitOf w v)
-
-abbrev rightBit : ℕ → ℕ → ℕ → Bool
-rightBit b v w = eqb (bitOf w (step b v)) (after b v w)
-
-abbrev rightBits : ℕ → ℕ → Bool
-rightBits b v = allBelow 5 (rightBit b v)
-
-abbrev rightGate : ℕ → Bool
-rightGate b = implies (lawful 2 5 b) (both (inside (gateOf b .kind)) (allBelow 32 (rightBits b)))
-
-right-all : allBelow 160 rightGate ≡ true
-unfolding lawful step gateOf ones onesIn trailingZeros leadingZeros
-right-all = refl
-
-module _ (b : ℕ) (h : lawful 2 5 b ≡ true) where
-  right : both (inside (gateOf b .kind)) (allBelow 32 (rightBits b)) ≡ true
-  right =
-      implied (lawful 2 5 b) (both (inside (gateOf b .kind)) (allBelow 32 (rightBits b)))
-      (below 160 rightGate right-all b (lawful-lt 2 5 b (omega arith) h)) h
-
-  -- the control wires of a lawful gate are below 5
-  pub wires-inside : inside (gateOf b .kind) ≡ true
-  wires-inside = both-left (inside (gateOf b .kind)) (allBelow 32 (rightBits b)) right
-
-  pub bit-after : (v w : ℕ) → v < 32 → w < 5 → bitOf w (step b v) ≡ after b v w
-  bit-after v w hv hw =
-      eqb-true (bitOf w (step b v)) (after b v w)
-      (below 5 (rightBit b v) (below 32 (rightBits b) (both-right (inside (gateOf b .kind)) (allBelow 32 (rightBits b)) right) v hv) w hw)
+-- of two bits, the bitwise and is the product
+product : (p q : ℕ) → p < 2 → q < 2 → bitAnd p q ≡ p * q
+product zero q hp hq = and-zero-l q ∙ omega arith
+product (suc zero) zero hp hq = refl
+product (suc zero) (suc zero) hp hq = refl
+product (suc zero) (suc (suc q)) hp hq = absurd (omega arith)
+product (suc (suc p)) q hp hq = absurd (omega arith)
 
 abbrev setBit : ℕ → Bool
 setBit x = eqb (bitOf x 65535) 1
 
 module _ (cs : List ℕ) (x v : ℕ) (hx : x < 16) (row : Row cs x v) where
-  firing-bit : (k : Kind) → inside k ≡ true → bitOf x (firing k cs) ≡ controls k v
+  firing-bit : (k : Kind) → inside k ≡ true → bitOf x (firing k cs) ≡ added k v
   firing-bit Not i = eqb-true (bitOf x 65535) 1 (below 16 setBit refl x hx)
   firing-bit (Cnot a) i = row a (ltb-true a 5 i)
   firing-bit (Toffoli a b) i =
       bit-and x (getD cs a 0) (getD cs b 0)
-      ∙ ap₂ bitAnd (row a (ltb-true a 5 (both-left (ltb a 5) (ltb b 5) i))) (row b (ltb-true b 5 (both-right (ltb a 5) (ltb b 5) i)))
+      ∙ product (bitOf x (getD cs a 0)) (bitOf x (getD cs b 0)) (omega arith) (omega arith)
+      ∙ ap₂ _*_ (row a (ltb-true a 5 (both-left (ltb a 5) (ltb b 5) i))) (row b (ltb-true b 5 (both-right (ltb a 5) (ltb b 5) i)))
 
   module _ (b : ℕ) (h : lawful 2 5 b ≡ true) (hl : length cs ≡ 5) (hv : v < 32) where
     at-target : bitOf x (getD (columnStep (gateOf b) cs) (targetOf b) 0) ≡ bitOf (targetOf b) (step b v)

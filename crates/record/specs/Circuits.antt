@@ -1,7 +1,7 @@
 -- A circuit record: its fields, and the checks in document 01's order with its numbers.
 use mathlib.Core.Bool.{Bool}
-use mathlib.Core.List.{List}
-use Prim.Native.Nat.{ℕ, _-_, _%_}
+use mathlib.Core.List.{List, _∷_}
+use Prim.Native.Nat.{ℕ, _+_, _-_, _*_, _%_}
 use lib.Dec.{leb, eqb}
 use lib.ListN.{length, getD, drop}
 use Rattle.logic.specs.Rules.{both, either, rule}
@@ -47,3 +47,7 @@ circuitCode c =
     (rule (layoutInOrder c) 9
     (rule (countOk c) 10
     (rule (gatesOk c) 21 0))))
+
+-- The bytes of a circuit: byte 0 with n and m, the layout, the gate count, the gates
+unfoldable pub circuitBytes : ℕ → ℕ → ℕ → List ℕ → List ℕ
+circuitBytes n m p l = (32 * n + 8 * m) ∷ p ∷ length l ∷ l

@@ -1,14 +1,15 @@
 // Job and circuit records: their fields behind functions, and the checks in order.
 use circuit::Weights;
 ghost use mathlib.Core.Path.{_≡_};
-ghost use Prim.Native.Nat.{_≤_, _<_};
-ghost use lib.ListN.{length};
+ghost use mathlib.Core.List.{_∷_, _++_};
+ghost use Prim.Native.Nat.{_+_, _≤_, _<_};
+ghost use lib.ListN.{length, take, drop};
 ghost use Rattle.logic.specs.Lists.{allOf};
 ghost use Rattle.gate.specs.Gates.{lawful};
 ghost use Rattle.table.specs.Layouts.{Width};
 ghost use Rattle.record.specs.Jobs.{dataWires, ancillas, wires, freeLayout, gateLimit, word, costLimit, depthLimit, weightsAt};
 ghost use Rattle.record.specs.Jobs.{prices, durations, rows, jobLengthOk, sizeOk, headOk, limitOk, durationsOk, rowsOk, jobCode};
-ghost use Rattle.record.specs.Circuits.{layoutOf, countOf, gates, circuitLengthOk, shapeOk, countOk, gatesOk, circuitCode};
+ghost use Rattle.record.specs.Circuits.{layoutOf, countOf, gates, circuitLengthOk, shapeOk, countOk, gatesOk, circuitCode, circuitBytes};
 ghost use Rattle.record.specs.Answers.{checkedAnswer, checkOf};
 ghost use Rattle.record.specs.Inner.{jobRest, circuitRest};
 
@@ -284,4 +285,46 @@ pub fn check_circuit(c: &[u8]) -> Checked
     ensures { λ r. ⌜ checkedAnswer r ≡ checkOf (circuitCode (now (c .entry))) ⌝ }
 {
     answer(circuit_code(c))
+}
+
+// A record with room for twelve gates.
+fn whole_record(head: u8, layout: u8, count: u8, path: [u8; 12]) -> [u8; 15]
+    ensures { λ r. ⌜ r ≡ head ∷ layout ∷ count ∷ path ⌝ }
+{
+    [
+        head,
+        layout,
+        count,
+        path[0],
+        path[1],
+        path[2],
+        path[3],
+        path[4],
+        path[5],
+        path[6],
+        path[7],
+        path[8],
+        path[9],
+        path[10],
+        path[11],
+    ]
+}
+
+// Writes a record of n data wires and m ancillas from byte 0 and returns its length; later bytes stay.
+pub fn write_record(
+    n: usize,
+    m: usize,
+    layout: u8,
+    path: [u8; 12],
+    len: usize,
+    answer: &mut [u8],
+) -> usize
+    requires { ⌜ ((n < 8) × (m < 4)) × ((len ≤ 12) × (15 ≤ length (now answer))) ⌝ }
+    ensures { λ r. ⌜ r ≡ 3 + len ⌝ }
+    ensures { λ _. ⌜ now (answer .exit) ≡ circuitBytes n m layout (take len path) ++ drop (3 + len) (now (answer .entry)) ⌝ }
+{
+    let head = (32 * n + 8 * m) as u8;
+    let bytes = whole_record(head, layout, len as u8, path);
+    let size = 3 + len;
+    bytes::copy(&bytes[..size], answer)
 }

@@ -14,7 +14,7 @@ use Rattle.table.specs.Layouts.{layoutOk, allowed, layoutsFor}
 use Rattle.table.specs.Rows.{rowOk, bitAgrees, rowAgrees, agreesFrom, realizes}
 use Rattle.record.specs.Jobs.{dataWires, ancillas, wires, freeLayout, gateLimit, costLimit, depthLimit, prices, durations}
 use Rattle.record.specs.Jobs.{jobLengthOk, sizeOk, headOk, limitOk, durationsOk, rowsOk, jobCode}
-use Rattle.record.specs.Circuits.{layoutOf, countOf, circuitLengthOk, shapeOk, circuitCode}
+use Rattle.record.specs.Circuits.{layoutOf, countOf, circuitLengthOk, shapeOk, circuitCode, circuitBytes}
 use Rattle.verify.specs.Calls.{runCode, runOf, measuresOf, sameWires, measureCode, measureOf, limitsCode, verifyRest, verifyCode, verifyOf}
 use Rattle.parity.specs.Parity.{full, distinct, permutes, smaller, inversions, tableParity, parityOf}
 use Rattle.choice.specs.Choices.{lexLess, before, keep, attempt, improve, under}
@@ -27,7 +27,7 @@ unfolding failing samples holds lawful step gateOf weightOf hold greatest total 
     distinct inversions smaller jobCode jobLengthOk sizeOk headOk limitOk durationsOk rowsOk rowOk dataWires ancillas wires freeLayout
     gateLimit costLimit depthLimit prices durations layoutOf countOf circuitLengthOk shapeOk circuitCode layoutOk allowed bitAgrees
     rowAgrees agreesFrom runCode runOf measuresOf sameWires measureCode measureOf limitsCode verifyRest verifyCode verifyOf ones onesIn
-    trailingZeros leadingZeros lexLess before keep attempt improve under choiceOf here within firstGood problemOf recordOf searchCode searchOf
+    trailingZeros leadingZeros lexLess before keep attempt improve under choiceOf here within firstGood problemOf recordOf circuitBytes searchCode searchOf
     layoutsFor realizes
 all-hold = refl
 

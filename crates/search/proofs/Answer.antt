@@ -1,18 +1,17 @@
 -- What the public call owes: each way out of it is what its definition answers, and the record stands at the start of the buffer.
 use mathlib.Core.Path.{_≡_, ap, _∙_}
 use mathlib.Core.Bool.{true, false}
-use mathlib.Core.List.{List, _∷_, _++_}
+use mathlib.Core.List.{List, _++_}
 use mathlib.Core.Option.{none}
-use Prim.Native.Nat.{ℕ, suc, _+_, _*_, _≤_}
-use native.Mathlib.Omega.{arith}
+use Prim.Native.Nat.{ℕ}
 use borrow.Author.Tests.{eqb-true, ne-eqb}
 use lib.Dec.{eqb}
 use lib.ListN.{length, take, drop}
-use lib.Seq.{length-take-le, take-length}
 use Rattle.logic.specs.Rules.{both}
 use Rattle.logic.specs.Answers.{Answer, refused, answered}
 use Rattle.logic.proofs.Chain.{both-parts}
 use Rattle.record.specs.Jobs.{dataWires, ancillas, jobCode}
+use Rattle.record.specs.Circuits.{circuitBytes}
 use Rattle.parity.specs.Parity.{isOdd, tableParity}
 use Rattle.parity.proofs.Odd.{odd-is}
 use Rattle.choice.specs.declared.Best.{Best}
@@ -36,14 +35,14 @@ module _ (job : List ℕ) (room : ℕ) where
     unfolding view
     missing h = past ∙ rw h
 
-    pub reached : (head : ℕ) → head ≡ 32 * dataWires job + 8 * ancillas job → b .found ≡ true → b .len ≤ length (b .path)
+    pub reached : (n m : ℕ) → n ≡ dataWires job → m ≡ ancillas job → b .found ≡ true
         → searchOf job room
         ≡ answered (record {
-          bytes = head ∷ b .layout ∷ b .len ∷ take (b .len) (b .path);
+          bytes = circuitBytes n m (b .layout) (take (b .len) (b .path));
           measures = record { gates = b .len; cost = b .cost; depth = b .depth };
         })
     unfolding view recordOf choice
-    reached head e h l = past ∙ rw (h, e, length-take-le (b .len) (b .path) l)
+    reached n m e k h = past ∙ rw (h, e, k)
 
 pub odd-nothing : (job : List ℕ) → jobCode job ≡ 0 → alwaysNone job ≡ true → firstGood (problemOf job) ≡ none
 unfolding alwaysNone
@@ -53,21 +52,6 @@ odd-nothing job sound h =
     let k = both-parts (both n m) (isOdd (tableParity job)) h in
     let w = both-parts n m (k .0) in
     odd-first job sound (eqb-true (dataWires job) 4 (w .0)) (eqb-true (ancillas job) 0 (w .1)) (odd-is (tableParity job) (k .1))
-
-front : (h l k : ℕ) (path : List ℕ) (len : ℕ) → take (3 + len) (h ∷ l ∷ k ∷ path) ≡ h ∷ l ∷ k ∷ take len path
-front h l k path len = let e : 3 + len ≡ suc (suc (suc len)) = omega arith in rw e
-
--- the front of a whole record, copied to the start of a buffer
-pub copied : (h l k : ℕ) (path bytes answer out : List ℕ) (len : ℕ) → bytes ≡ h ∷ l ∷ k ∷ path → len ≤ length path
-    → out ≡ take (length (take (3 + len) bytes)) (take (3 + len) bytes) ++ drop (length (take (3 + len) bytes)) answer
-    → out ≡ (h ∷ l ∷ k ∷ take len path) ++ drop (3 + len) answer
-copied h l k path bytes answer out len e small o =
-    let f = ap (take (3 + len)) e ∙ front h l k path len in
-    let n : length (take (3 + len) bytes) ≡ 3 + len = ap length f ∙ rw (length-take-le len path small) (omega arith) in
-    o ∙ rw (take-length (take (3 + len) bytes), n, f)
-
-pub record-size : (h l k : ℕ) (path : List ℕ) (len : ℕ) → len ≤ length path → 3 + len ≡ length (h ∷ l ∷ k ∷ take len path)
-record-size h l k path len small = rw (length-take-le len path small) (omega arith)
 
 -- what is found is told and written
 module _ {o : Answer Found} {f : Found} (found : o ≡ answered f) (k : ℕ) (sized : k ≡ length (f .bytes)) where

@@ -19,7 +19,8 @@ use Rattle.table.specs.Layouts.{layoutOk, allowed}
 use Rattle.table.specs.Rows.{realizes}
 use Rattle.table.proofs.Layouts.{allowed-ok}
 use Rattle.record.specs.Jobs.{dataWires, ancillas, wires, freeLayout, priceOf, durationOf, rows, jobCode}
-use Rattle.record.specs.Circuits.{layoutOf, countOf, gates, circuitLengthOk, shapeOk, circuitCode}
+use Rattle.record.specs.Circuits.{layoutOf, countOf, gates, circuitLengthOk, shapeOk, circuitCode, circuitBytes}
+use Rattle.record.proofs.Written as Written
 use Rattle.record.proofs.Kept.{sound-job, sound-circuit, wires-within}
 use Rattle.verify.specs.Calls.{measuresOf, verifyOf}
 use Rattle.verify.specs.Demand.{Passes}
@@ -28,16 +29,6 @@ use Rattle.problem.specs.Demand.{Solves}
 use Rattle.search.specs.Outcomes.{problemOf, recordOf, Found, searchOf}
 use Rattle.search.proofs.Facts.{admitted-is, found-sound, found-is, none-is}
 
--- what byte 0 holds
-byte-data : (n m : ℕ) → m ≤ 1 → (32 * n + 8 * m) / 32 ≡ n
-byte-data n m h = omega arith
-
-byte-ancillas : (n m : ℕ) → m ≤ 1 → (32 * n + 8 * m) / 8 % 4 ≡ m
-byte-ancillas n m h = omega arith
-
-byte-zeros : (n m : ℕ) → m ≤ 1 → (32 * n + 8 * m) % 8 ≡ 0
-byte-zeros n m h = omega arith
-
 module _ (job : List ℕ) (sound : jobCode job ≡ 0) where
   -- the fields of a record of the job
   module _ (p : ℕ) (l : List ℕ) where
@@ -45,76 +36,34 @@ module _ (job : List ℕ) (sound : jobCode job ≡ 0) where
     bytes = recordOf job p l
 
     same-data : dataWires bytes ≡ dataWires job
-    unfolding recordOf dataWires
-    same-data = byte-data (dataWires job) (ancillas job) (sound-job job sound .spare)
+    unfolding recordOf
+    same-data = Written.same-data (dataWires job) (ancillas job) p l (sound-job job sound .spare)
 
     same-ancillas : ancillas bytes ≡ ancillas job
-    unfolding recordOf ancillas
-    same-ancillas = byte-ancillas (dataWires job) (ancillas job) (sound-job job sound .spare)
-
-    same-wires : wires bytes ≡ wires job
-    unfolding wires
-    same-wires = ap₂ (λ (n m : ℕ). n + m) same-data same-ancillas
+    unfolding recordOf
+    same-ancillas = Written.same-ancillas (dataWires job) (ancillas job) p l (sound-job job sound .spare)
 
     same-layout : layoutOf bytes ≡ p
-    unfolding recordOf layoutOf
-    same-layout = refl
+    unfolding recordOf
+    same-layout = Written.same-layout (dataWires job) (ancillas job) p l (sound-job job sound .spare)
 
     same-gates : gates bytes ≡ l
     unfolding recordOf
-    same-gates = refl
+    same-gates = Written.same-gates (dataWires job) (ancillas job) p l (sound-job job sound .spare)
 
     -- the record of a solution keeps the circuit's rules
     module _ (s : Solves (problemOf job) l p) where
-      shape-kept : shapeOk bytes ≡ true
-      unfolding shapeOk recordOf
-      shape-kept =
-          let three = eqb (dataWires bytes) 3 in
-          let four = eqb (dataWires bytes) 4 in
-          both-true
-          (⊎-elim
-          (λ (e : dataWires job ≡ 3). either-first three four (eq-eqb (dataWires bytes) 3 (same-data ∙ e)))
-          (λ (e : dataWires job ≡ 4). either-second three four (eq-eqb (dataWires bytes) 4 (same-data ∙ e)))
-          (sound-job job sound .width))
-          (both-true
-          (le-leb (ancillas bytes) 1 (subst (λ (m : ℕ). m ≤ 1) (sym same-ancillas) (sound-job job sound .spare)))
-          (eq-eqb (getD bytes 0 0 % 8) 0 (byte-zeros (dataWires job) (ancillas job) (sound-job job sound .spare))))
-
       few : length l ≤ 12
       few =
           let a = admitted-is job sound l p .0 (s .admitted) .1 .0 in
           omega (arith, sound-job job sound .limit)
 
-      length-kept : circuitLengthOk bytes ≡ true
-      unfolding circuitLengthOk recordOf
-      length-kept = let h = few in both-true (le-leb 3 (length bytes) (omega arith)) (le-leb (length bytes) 15 (omega arith))
-
-      layout-kept : layoutOk (dataWires bytes) (layoutOf bytes) ≡ true
-      unfolding problemOf
-      layout-kept =
-          ap₂ layoutOk same-data same-layout ∙ allowed-ok (dataWires job) (freeLayout job) p (sound-job job sound .width) (s .admitted .layout-listed) .1
-
-      counted : countOf bytes ≡ length l
-      unfolding recordOf countOf
-      counted = refl
-
-      count-kept : countOf bytes ≡ length bytes - 3
-      unfolding recordOf
-      count-kept = counted ∙ omega arith
-
-      gates-kept : allOf (lawful 2 (wires bytes)) (gates bytes) ≡ true
-      gates-kept = ap₂ (λ (w : ℕ) (gs : List ℕ). allOf (lawful 2 w) gs) same-wires same-gates ∙ admitted-is job sound l p .0 (s .admitted) .0
-
       circuit-kept : circuitCode bytes ≡ 0
-      unfolding circuitCode
+      unfolding problemOf recordOf wires
       circuit-kept =
-          rw (
-            length-kept,
-            shape-kept,
-            layout-kept,
-            eq-eqb (countOf bytes) (length bytes - 3) count-kept,
-            gates-kept,
-          )
+          let sj = sound-job job sound in
+          Written.circuit-kept (dataWires job) (ancillas job) p l (sj .spare) (sj .width)
+          (allowed-ok (dataWires job) (freeLayout job) p (sj .width) (s .admitted .layout-listed) .1) few (admitted-is job sound l p .0 (s .admitted) .0)
 
       -- a solution's record passes
       pub solves-passes : Passes job bytes
@@ -133,7 +82,7 @@ module _ (job : List ℕ) (sound : jobCode job ≡ 0) where
 
       -- and its bytes are bytes
       pub record-bytes : (i : ℕ) → getD bytes i 0 < 256
-      unfolding recordOf
+      unfolding recordOf circuitBytes
       record-bytes zero =
           let m = sound-job job sound .spare in
           ⊎-elim (λ (e : dataWires job ≡ 3). omega arith) (λ (e : dataWires job ≡ 4). omega arith) (sound-job job sound .width)

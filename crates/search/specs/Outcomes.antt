@@ -1,7 +1,7 @@
 -- What the search answers: a job as a problem, the problem's first good choice as a record, and what the call makes of it.
-use mathlib.Core.List.{List, _∷_, _++_}
+use mathlib.Core.List.{List, _++_}
 use mathlib.Core.Option.{Option, none, some}
-use Prim.Native.Nat.{ℕ, _+_, _*_}
+use Prim.Native.Nat.{ℕ}
 use lib.Dec.{leb, eqb}
 use lib.ListN.{length, drop}
 use Rattle.logic.specs.Rules.{pick, rule, andThen}
@@ -10,6 +10,7 @@ use Rattle.gate.specs.Gates.{gatesFor}
 use Rattle.table.specs.Layouts.{layoutsFor}
 use Rattle.table.specs.Rows.{realizes}
 use Rattle.record.specs.Jobs.{dataWires, ancillas, wires, freeLayout, gateLimit, costLimit, depthLimit, priceOf, durationOf, rows, jobCode}
+use Rattle.record.specs.Circuits.{circuitBytes}
 use Rattle.verify.specs.declared.Measures.{Measures}
 use Rattle.choice.specs.Choices.{Choice}
 use Rattle.problem.specs.Problems.{Problem, firstGood}
@@ -28,9 +29,9 @@ problemOf job = record {
   mostDepth = depthLimit job;
 }
 
--- a circuit record of the job: byte 0 with its n and m, the layout, the gate count, the gates
+-- a circuit record with the job's n and m
 unfoldable pub recordOf : List ℕ → ℕ → List ℕ → List ℕ
-recordOf job p l = (32 * dataWires job + 8 * ancillas job) ∷ p ∷ length l ∷ l
+recordOf job p l = circuitBytes (dataWires job) (ancillas job) p l
 
 -- what a search finds
 pub record Found : Type 0 where

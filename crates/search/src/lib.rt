@@ -4,11 +4,10 @@ use circuit::Weights;
 use solver::Task;
 use verify::Measures;
 ghost use mathlib.Core.Path.{_≡_};
-ghost use mathlib.Core.List.{_∷_, _++_};
-ghost use Prim.Native.Nat.{ℕ, _+_, _*_, _≤_, _<_};
-ghost use lib.ListN.{length, getD, take, drop};
+ghost use Prim.Native.Nat.{ℕ, _≤_, _<_};
+ghost use lib.ListN.{length, getD};
 ghost use Rattle.circuit.specs.Measure.{weightOf};
-ghost use Rattle.record.specs.Jobs.{dataWires, ancillas, jobCode};
+ghost use Rattle.record.specs.Jobs.{jobCode};
 ghost use Rattle.choice.specs.Inner.{view};
 ghost use Rattle.problem.specs.Problems.{firstGood};
 ghost use Rattle.search.specs.Outcomes.{problemOf, searchCode, searchOf, reported, written, searchedAnswer, sizeIn};
@@ -79,47 +78,6 @@ fn first_good(job: &[u8]) -> Best
     )
 }
 
-// Byte 0 of the answer: the job's n and m.
-fn head(job: &[u8]) -> u8
-    ensures { λ r. ⌜ r ≡ 32 * dataWires (now (job .entry)) + 8 * ancillas (now (job .entry)) ⌝ }
-{
-    (32 * record::data_wires(job) + 8 * record::ancillas(job)) as u8
-}
-
-// A record with room for twelve gates.
-fn whole_record(head: u8, layout: u8, count: u8, path: [u8; 12]) -> [u8; 15]
-    ensures { λ r. ⌜ r ≡ head ∷ layout ∷ count ∷ path ⌝ }
-{
-    [
-        head,
-        layout,
-        count,
-        path[0],
-        path[1],
-        path[2],
-        path[3],
-        path[4],
-        path[5],
-        path[6],
-        path[7],
-        path[8],
-        path[9],
-        path[10],
-        path[11],
-    ]
-}
-
-// Writes a record from byte 0 and returns its length; later bytes stay.
-fn write_record(head: u8, layout: u8, path: [u8; 12], len: usize, answer: &mut [u8]) -> usize
-    requires { ⌜ (len ≤ 12) × (15 ≤ length (now answer)) ⌝ }
-    ensures { λ r. ⌜ r ≡ 3 + len ⌝ }
-    ensures { λ _. ⌜ now (answer .exit) ≡ (head ∷ layout ∷ len ∷ take len path) ++ drop (3 + len) (now (answer .entry)) ⌝ }
-{
-    let bytes = whole_record(head, layout, len as u8, path);
-    let size = 3 + len;
-    bytes::copy(&bytes[..size], answer)
-}
-
 fn search_code(job: &[u8], room: usize) -> u8
     ensures { λ r. ⌜ r ≡ searchCode (now (job .entry)) room ⌝ }
 {
@@ -141,11 +99,13 @@ pub fn search(job: &[u8], answer: &mut [u8]) -> Searched
         return Searched::Refused(14);
     }
     let path = best.path;
-    let size = write_record(head(job), best.layout, path, best.len, answer);
-    let m = Measures {
+    let n = record::data_wires(job);
+    let m = record::ancillas(job);
+    let size = record::write_record(n, m, best.layout, path, best.len, answer);
+    let measures = Measures {
         gates: best.len as u8,
         cost: best.cost,
         depth: best.depth,
     };
-    Searched::Found(size, m)
+    Searched::Found(size, measures)
 }

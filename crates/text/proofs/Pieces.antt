@@ -13,7 +13,7 @@ use Rattle.verify.specs.declared.Measures.{Measures}
 use Rattle.text.specs.Text.{place, decimal, spaced, hexDigit, hexOf, refusedLine, foundLine, inFront}
 use Rattle.text.specs.Writing.{over, Wrote}
 
-over-append : (s t l : List ℕ) (i : ℕ) → over (over l i s) (i + length s) t ≡ over l i (s ++ t)
+pub over-append : (s t l : List ℕ) (i : ℕ) → over (over l i s) (i + length s) t ≡ over l i (s ++ t)
 unfolding over
 over-append [] t l i = ap (λ (k : ℕ). sets l k t) (omega arith)
 over-append (x ∷ s) t l i = ap (λ (k : ℕ). sets (sets (set l i x) (suc i) s) k t) (omega arith) ∙ over-append s t (set l i x) (suc i)

@@ -5,6 +5,7 @@ use lib.Dec.{ltb, leb}
 use lib.ListN.{length, drop}
 use Rattle.logic.specs.Rules.{pick}
 use Rattle.verify.specs.declared.Measures.{Measures}
+use Rattle.logic.specs.Words.{bytes}
 
 -- the digit of one place of a number, 1, 10, 100 and so on; nothing where the place is above the number
 unfoldable pub place : ℕ → ℕ → List ℕ
@@ -23,13 +24,6 @@ unfoldable pub hexOf : List ℕ → List ℕ
 hexOf [] = []
 hexOf (b ∷ bs) = hexDigit (b / 16) ∷ hexDigit (b % 16) ∷ hexOf bs
 
--- "refused" and "found", each with its space, and the line feed
-abbrev pub refusedWord : List ℕ
-refusedWord = 114 ∷ 101 ∷ 102 ∷ 117 ∷ 115 ∷ 101 ∷ 100 ∷ 32 ∷ []
-
-abbrev pub foundWord : List ℕ
-foundWord = 102 ∷ 111 ∷ 117 ∷ 110 ∷ 100 ∷ 32 ∷ []
-
 abbrev pub lineFeed : List ℕ
 lineFeed = 10 ∷ []
 
@@ -39,11 +33,12 @@ spaced n = decimal n ++ (32 ∷ [])
 
 -- "`refused` and the number"
 unfoldable pub refusedLine : ℕ → List ℕ
-refusedLine code = refusedWord ++ (decimal code ++ lineFeed)
+refusedLine code = bytes "refused " ++ (decimal code ++ lineFeed)
 
 -- "`found`, gates, cost, depth and the record"
 unfoldable pub foundLine : Measures → List ℕ → List ℕ
-foundLine m bytes = foundWord ++ (spaced (m .gates) ++ (spaced (m .cost) ++ (spaced (m .depth) ++ (hexOf bytes ++ lineFeed))))
+foundLine m circuit =
+    bytes "found " ++ (spaced (m .gates) ++ (spaced (m .cost) ++ (spaced (m .depth) ++ (hexOf circuit ++ lineFeed))))
 
 -- what a buffer holds after a line was written at its start: later bytes are untouched
 unfoldable pub inFront : List ℕ → List ℕ → List ℕ

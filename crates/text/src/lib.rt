@@ -8,7 +8,7 @@ ghost use Rattle.text.specs.Text.{place, decimal, hexDigit, hexOf, space
 ghost use Rattle.text.specs.Writing.{Wrote};
 
 // Writes one byte at an index, and answers the next index, as all below.
-fn put(out: &mut [u8], i: usize, byte: u8) -> usize
+pub fn put(out: &mut [u8], i: usize, byte: u8) -> usize
     requires { ⌜ i < length (now out) ⌝ }
     ensures { λ r. ⌜ Wrote (now (out .entry)) i (byte ∷ []) (now (out .exit)) r ⌝ }
 {
@@ -16,7 +16,7 @@ fn put(out: &mut [u8], i: usize, byte: u8) -> usize
     i + 1
 }
 
-fn put_text(out: &mut [u8], i: usize, text: &[u8]) -> usize
+pub fn put_text(out: &mut [u8], i: usize, text: &[u8]) -> usize
     requires { ⌜ i + length (now text) ≤ length (now out) ⌝ }
     ensures { λ r. ⌜ Wrote (now (out .entry)) i (now (text .entry)) (now (out .exit)) r ⌝ }
 {
@@ -41,7 +41,7 @@ fn put_place(out: &mut [u8], i: usize, n: usize, p: usize) -> usize
     }
 }
 
-fn put_decimal(out: &mut [u8], i: usize, n: usize) -> usize
+pub fn put_decimal(out: &mut [u8], i: usize, n: usize) -> usize
     requires { ⌜ i + 5 ≤ length (now out) ⌝ }
     ensures { λ r. ⌜ Wrote (now (out .entry)) i (decimal n) (now (out .exit)) r ⌝ }
 {
@@ -52,7 +52,7 @@ fn put_decimal(out: &mut [u8], i: usize, n: usize) -> usize
     put(out, d, 48 + (n % 10) as u8)
 }
 
-fn put_spaced(out: &mut [u8], i: usize, n: usize) -> usize
+pub fn put_spaced(out: &mut [u8], i: usize, n: usize) -> usize
     requires { ⌜ i + 6 ≤ length (now out) ⌝ }
     ensures { λ r. ⌜ Wrote (now (out .entry)) i (spaced n) (now (out .exit)) r ⌝ }
 {
@@ -82,15 +82,23 @@ fn put_hex(out: &mut [u8], i: usize, bytes: &[u8]) -> usize
     i + 2 * k
 }
 
+// Writes `refused` and the number.
+pub fn put_refused(out: &mut [u8], i: usize, code: u8) -> usize
+    requires { ⌜ i + 14 ≤ length (now out) ⌝ }
+    ensures { λ r. ⌜ Wrote (now (out .entry)) i (refusedLine code) (now (out .exit)) r ⌝ }
+{
+    let a = put_text(out, i, b"refused ");
+    let b = put_decimal(out, a, code as usize);
+    put(out, b, b'\n')
+}
+
 // Writes `refused` and the number at the start of the buffer, and answers the line's length.
 pub fn refused_line(code: u8, out: &mut [u8]) -> usize
     requires { ⌜ 64 ≤ length (now out) ⌝ }
     ensures { λ r. ⌜ r ≡ length (refusedLine code) ⌝ }
     ensures { λ r. ⌜ now (out .exit) ≡ inFront (refusedLine code) (now (out .entry)) ⌝ }
 {
-    let a = put_text(out, 0, b"refused ");
-    let b = put_decimal(out, a, code as usize);
-    put(out, b, b'\n')
+    put_refused(out, 0, code)
 }
 
 // Writes `found`, the measures and the record at the start of the buffer, and answers the line's length.

@@ -6,9 +6,11 @@ use borrow.Author.Tests.{not-true, not-false}
 use borrow.Author.Needs.{needs}
 use lib.ListN.{length}
 use Rattle.logic.specs.Answers.{Answer}
+use Rattle.record.specs.Jobs.{ancillas}
+use Rattle.record.proofs.Written.{record-size}
 use Rattle.search.specs.Outcomes.{Found, searchCode, reported, written}
 use Rattle.search.proofs.Facts.{code-parts}
-use Rattle.search.proofs.Answer.{by-code, missing, reached, record-size, told, wrote}
+use Rattle.search.proofs.Answer.{by-code, missing, reached, told, wrote}
 use Rattle.search.proofs.search.Statement.{statement}
 use Rattle.search.proofs.search.Tie as tie
 
@@ -37,10 +39,13 @@ returns-2 c =
     (sym (ap reported e), (omega arith, sym (ap (λ (o : Answer Found). written o (s .args .answer .now)) e)))
 
 write-record-requires : tie.Need-write-record-requires
+unfolding ancillas
 write-record-requires c κs =
-    let g = c .before .before .before .before .before in
+    let a = c .before in
+    let e = a .ancillas .ensures in
+    let g = a .before .before .before .before .before in
     let s = g .before .before .before .before .before in
-    (g .first-good .ensures .1, code-parts (s .args .job .now) (length (s .args .answer .now)) (kept (g .before)) .1)
+    ((omega arith, omega arith), (g .first-good .ensures .1, code-parts (s .args .job .now) (length (s .args .answer .now)) (kept (g .before)) .1))
 
 -- the path of what was found has twelve places
 long : (c : tie.After-first-good) → length (c .first-good .result .path) ≡ 12
@@ -49,22 +54,22 @@ long c = search needs
 returns-3 : tie.Need-returns-3
 returns-3 c =
     let w = c .before .before .before in
-    let h = w .before .before in
-    let g = h .before .before .before .before in
+    let a = w .before .before in
+    let d = a .before in
+    let g = d .before .before .before .before in
     let s = g .before .before .before .before .before in
     let b = g .first-good .result in
     let l = long g in
     let n = g .first-good .ensures .1 in
-    let found = not-false _ (h .before .before .if2 .left) in
     let e
-    = reached (s .args .job .now) (length (s .args .answer .now)) (kept (g .before)) b (g .first-good .ensures .0) (h .head .result)
-    (h .head .ensures) found (omega arith) in
+    = reached (s .args .job .now) (length (s .args .answer .now)) (kept (g .before)) b (g .first-good .ensures .0) (d .data-wires .result)
+    (a .ancillas .result) (d .data-wires .ensures .0) (a .ancillas .ensures) (not-false _ (d .before .before .if2 .left)) in
     let v = w .write-record .ensures .0 in
-    let z = record-size (h .head .result) (b .layout) (b .len) (b .path) (b .len) (omega arith) in
+    let z = record-size (d .data-wires .result) (a .ancillas .result) (b .layout) (b .path) (b .len) (omega arith) in
     (told e (w .write-record .result) (v ∙ z), (omega arith, wrote e (3 + b .len) z (s .args .answer .now) _ (w .write-record .ensures .1)))
 
 pub search-spec : {M : Type 1} → statement M
 search-spec =
     tie.close
-    (tie.spec (λ c κs. search needs) returns first-good-requires returns-2 (λ c κs. search needs) write-record-requires (λ c. search needs)
-    (λ c. search needs) returns-3)
+    (tie.spec (λ c κs. search needs) returns first-good-requires returns-2 (λ c κs. search needs) (λ c κs. search needs)
+    write-record-requires (λ c. search needs) (λ c. search needs) returns-3)

@@ -1,0 +1,4 @@
+// The program for people: `gazbolk` alone says what it can do.
+fn main() {
+    commands::run();
+}

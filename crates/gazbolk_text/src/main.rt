@@ -1,0 +1,4 @@
+// The same program, on a circuit that is RevLib text.
+fn main() {
+    commands::run();
+}

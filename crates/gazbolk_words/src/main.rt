@@ -1,0 +1,4 @@
+// The same program, without a command.
+fn main() {
+    commands::run();
+}

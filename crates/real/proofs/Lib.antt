@@ -1,0 +1,4 @@
+pub mod Bodies
+pub mod Headings
+pub mod Outcomes
+pub mod Texts

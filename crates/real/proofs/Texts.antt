@@ -1,0 +1,62 @@
+-- A circuit's text by its parts, and what the call that writes it answers.
+use mathlib.Core.Path.{_≡_, refl, sym, ap, _∙_}
+use mathlib.Core.Bool.{true}
+use mathlib.Core.List.{List, map, _++_}
+use Prim.Native.Nat.{ℕ, _+_, _≤_, _<_}
+use native.Mathlib.Omega.{arith}
+use borrow.Author.Tests.{le-leb, lt-leb, ne-eqb}
+use lib.Dec.{eqb}
+use lib.ListN.{length, drop, length-append}
+use Rattle.logic.specs.Rules.{rule}
+use Rattle.logic.specs.Lists.{allOf}
+use Rattle.logic.proofs.Chain.{and-then-zero}
+use Rattle.gate.specs.Gates.{lawful}
+use Rattle.gate.proofs.Tables.{all-widen}
+use Rattle.table.specs.Layouts.{plain}
+use Rattle.record.specs.Jobs.{dataWires, ancillas, wires}
+use Rattle.record.specs.Circuits.{layoutOf, gates, circuitCode}
+use Rattle.record.proofs.Kept.{sound-circuit, circuit-wires-within}
+use Rattle.text.specs.Text.{inFront}
+use Rattle.text.specs.Writing.{Wrote}
+use Rattle.text.proofs.Pieces.{line-size, line-in-front}
+use Rattle.revlib.specs.Grammar.{body, render}
+use Rattle.revlib.specs.Writing.{Reply, lineFor, describe, textOf, textCode, writeOf, lengthOf, filled}
+use Rattle.rendering.specs.Parts.{headingFor}
+
+module _ (c : List ℕ) where
+  pub text-parts : headingFor (dataWires c) (ancillas c) ++ body (map lineFor (gates c)) ≡ textOf c
+  unfolding textOf render describe headingFor wires
+  text-parts = refl
+
+  pub text-length : length (textOf c) ≡ length (headingFor (dataWires c) (ancillas c)) + length (body (map lineFor (gates c)))
+  text-length = ap length (sym text-parts) ∙ length-append (headingFor (dataWires c) (ancillas c)) (body (map lineFor (gates c)))
+
+  pub lawful-five : circuitCode c ≡ 0 → allOf (lawful 2 5) (gates c) ≡ true
+  lawful-five sound = all-widen 2 (wires c) 2 5 (omega arith) (circuit-wires-within c sound .1) (gates c) (sound-circuit c sound .kept)
+
+  pub code-sound : textCode c ≡ 0 → circuitCode c ≡ 0
+  unfolding textCode
+  code-sound h = and-then-zero (circuitCode c) (rule (eqb (layoutOf c) (plain (dataWires c))) 15 0) h .0
+
+  module _ (out : List ℕ) where
+    pub not-written : (code : ℕ) → code ≡ textCode c → (code ≡ 0 → ⊥) → writeOf c (length out) ≡ Reply.refused code
+    unfolding writeOf
+    not-written code e n = rw (← e, ne-eqb code 0 n)
+
+    module _ (kept : textCode c ≡ 0) where
+      pub no-room : (needed : ℕ) → needed ≡ length (textOf c) → length out < needed → writeOf c (length out) ≡ Reply.short 13 needed
+      unfolding writeOf
+      no-room needed e h = rw (kept, ← e, lt-leb needed (length out) h)
+
+      fits : length (textOf c) ≤ length out → writeOf c (length out) ≡ Reply.answered (textOf c)
+      unfolding writeOf
+      fits h = rw (kept, le-leb (length (textOf c)) (length out) h)
+
+      -- the text stands at the start of the buffer, and its length is told
+      module _ (h : length (textOf c) ≤ length out) (new : List ℕ) (size : ℕ) (w : Wrote out 0 (textOf c) new size) where
+        pub told : Reply.answered size ≡ lengthOf (writeOf c (length out))
+        told = rw (fits h, line-size w)
+
+        pub wrote : new ≡ filled (writeOf c (length out)) out
+        unfolding inFront
+        wrote = line-in-front w h ∙ rw (fits h)

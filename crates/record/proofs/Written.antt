@@ -1,0 +1,143 @@
+-- A record by its n, m, layout and gates: its fields, the rules it keeps, and how it stands at the start of a buffer.
+use mathlib.Core.Path.{_≡_, refl, sym, ap, ap₂, _∙_, subst}
+use mathlib.Core.Bool.{true}
+use mathlib.Core.Logic.{⊎-elim}
+use mathlib.Core.List.{List, _∷_, _++_}
+use Prim.Native.Nat.{ℕ, suc, _+_, _-_, _*_, _/_, _%_, _≤_}
+use native.Mathlib.Omega.{arith}
+use borrow.Author.Tests.{eq-eqb, le-leb, eqb-true}
+use lib.Dec.{eqb, leb, lit<}
+use lib.ListN.{length, getD, take, drop, length-drop}
+use lib.Seq.{length-take-le, take-length, drop-cons}
+use Rattle.logic.specs.Rules.{both, either}
+use Rattle.logic.specs.Lists.{allOf}
+use Rattle.logic.proofs.Chain.{both-right, both-true, either-first, either-second, rule-kept}
+use Rattle.gate.specs.Gates.{lawful}
+use Rattle.table.specs.Layouts.{Width, layoutOk}
+use Rattle.record.specs.Jobs.{dataWires, ancillas, wires}
+use Rattle.record.specs.Circuits.{layoutOf, countOf, gates, circuitLengthOk, shapeOk, layoutInOrder, countOk, circuitCode, circuitBytes}
+use Rattle.record.proofs.Kept.{long-enough}
+
+-- what byte 0 holds
+byte-data : (n m : ℕ) → m ≤ 1 → (32 * n + 8 * m) / 32 ≡ n
+byte-data n m h = omega arith
+
+byte-ancillas : (n m : ℕ) → m ≤ 1 → (32 * n + 8 * m) / 8 % 4 ≡ m
+byte-ancillas n m h = omega arith
+
+byte-zeros : (n m : ℕ) → m ≤ 1 → (32 * n + 8 * m) % 8 ≡ 0
+byte-zeros n m h = omega arith
+
+module _ (n m p : ℕ) (l : List ℕ) (spare : m ≤ 1) where
+  abbrev bytes : List ℕ
+  bytes = circuitBytes n m p l
+
+  pub same-data : dataWires bytes ≡ n
+  unfolding circuitBytes dataWires
+  same-data = byte-data n m spare
+
+  pub same-ancillas : ancillas bytes ≡ m
+  unfolding circuitBytes ancillas
+  same-ancillas = byte-ancillas n m spare
+
+  pub same-wires : wires bytes ≡ n + m
+  unfolding wires
+  same-wires = ap₂ (λ (x y : ℕ). x + y) same-data same-ancillas
+
+  pub same-layout : layoutOf bytes ≡ p
+  unfolding circuitBytes layoutOf
+  same-layout = refl
+
+  pub same-gates : gates bytes ≡ l
+  unfolding circuitBytes
+  same-gates = refl
+
+  module _ (width : Width n) (laid-out : layoutOk n p ≡ true) (few : length l ≤ 12) (kept : allOf (lawful 2 (n + m)) l ≡ true) where
+    shape-kept : shapeOk bytes ≡ true
+    unfolding shapeOk circuitBytes
+    shape-kept =
+        let three = eqb (dataWires bytes) 3 in
+        let four = eqb (dataWires bytes) 4 in
+        both-true
+        (⊎-elim
+        (λ (e : n ≡ 3). either-first three four (eq-eqb (dataWires bytes) 3 (same-data ∙ e)))
+        (λ (e : n ≡ 4). either-second three four (eq-eqb (dataWires bytes) 4 (same-data ∙ e)))
+        width)
+        (both-true
+        (le-leb (ancillas bytes) 1 (subst (λ (k : ℕ). k ≤ 1) (sym same-ancillas) spare))
+        (eq-eqb (getD bytes 0 0 % 8) 0 (byte-zeros n m spare)))
+
+    length-kept : circuitLengthOk bytes ≡ true
+    unfolding circuitLengthOk circuitBytes
+    length-kept = both-true (le-leb 3 (length bytes) (omega arith)) (le-leb (length bytes) 15 (omega arith))
+
+    layout-kept : layoutOk (dataWires bytes) (layoutOf bytes) ≡ true
+    layout-kept = ap₂ layoutOk same-data same-layout ∙ laid-out
+
+    counted : countOf bytes ≡ length l
+    unfolding circuitBytes countOf
+    counted = refl
+
+    count-kept : countOf bytes ≡ length bytes - 3
+    unfolding circuitBytes
+    count-kept = counted ∙ omega arith
+
+    gates-kept : allOf (lawful 2 (wires bytes)) (gates bytes) ≡ true
+    gates-kept = ap₂ (λ (w : ℕ) (gs : List ℕ). allOf (lawful 2 w) gs) same-wires same-gates ∙ kept
+
+    -- the record of a sound shape, an allowed layout and at most twelve lawful gates breaks no rule
+    pub circuit-kept : circuitCode bytes ≡ 0
+    unfolding circuitCode
+    circuit-kept =
+        rw (
+          length-kept,
+          shape-kept,
+          layout-kept,
+          eq-eqb (countOf bytes) (length bytes - 3) count-kept,
+          gates-kept,
+        )
+
+front : (h l k : ℕ) (path : List ℕ) (len : ℕ) → take (3 + len) (h ∷ l ∷ k ∷ path) ≡ h ∷ l ∷ k ∷ take len path
+front h l k path len = let e : 3 + len ≡ suc (suc (suc len)) = omega arith in rw e
+
+-- the front of a whole record, copied to the start of a buffer
+pub copied : (n m p : ℕ) (path bytes answer out : List ℕ) (len : ℕ) → bytes ≡ (32 * n + 8 * m) ∷ p ∷ len ∷ path → len ≤ length path
+    → out ≡ take (length (take (3 + len) bytes)) (take (3 + len) bytes) ++ drop (length (take (3 + len) bytes)) answer
+    → out ≡ circuitBytes n m p (take len path) ++ drop (3 + len) answer
+unfolding circuitBytes
+copied n m p path bytes answer out len e small o =
+    let f = ap (take (3 + len)) e ∙ front (32 * n + 8 * m) p len path len in
+    let k : length (take (3 + len) bytes) ≡ 3 + len = ap length f ∙ rw (length-take-le len path small) (omega arith) in
+    o ∙ rw (take-length (take (3 + len) bytes), k, f, length-take-le len path small)
+
+pub record-size : (n m p : ℕ) (path : List ℕ) (len : ℕ) → len ≤ length path → 3 + len ≡ length (circuitBytes n m p (take len path))
+unfolding circuitBytes
+record-size n m p path len small = rw (length-take-le len path small) (omega arith)
+
+-- a circuit that breaks no rule is the record of its own fields
+module _ (c : List ℕ) (sound : circuitCode c ≡ 0) where
+  in-order : (circuitLengthOk c ≡ true) × ((shapeOk c ≡ true) × (countOk c ≡ true))
+  unfolding circuitCode
+  in-order =
+      let k₁ = rule-kept (circuitLengthOk c) 7 _ (lit< tt) sound in
+      let k₂ = rule-kept (shapeOk c) 8 _ (lit< tt) (k₁ .1) in
+      let k₃ = rule-kept (layoutInOrder c) 9 _ (lit< tt) (k₂ .1) in
+      (k₁ .0, (k₂ .0, rule-kept (countOk c) 10 _ (lit< tt) (k₃ .1) .0))
+
+  zeros : getD c 0 0 % 8 ≡ 0
+  unfolding shapeOk
+  zeros =
+      let d = either (eqb (dataWires c) 3) (eqb (dataWires c) 4) in
+      let m = leb (ancillas c) 1 in
+      let z = eqb (getD c 0 0 % 8) 0 in
+      eqb-true (getD c 0 0 % 8) 0 (both-right m z (both-right d (both m z) (in-order .1 .0)))
+
+  pub rebuilt : circuitBytes (dataWires c) (ancillas c) (layoutOf c) (gates c) ≡ c
+  unfolding circuitBytes dataWires ancillas layoutOf countOf
+  rebuilt =
+      let l = long-enough c (in-order .0) in
+      let n : length (gates c) ≡ getD c 2 0 = omega (arith, length-drop 3 c, eqb-true (countOf c) (length c - 3) (in-order .1 .1)) in
+      let b : 32 * (getD c 0 0 / 32) + 8 * (getD c 0 0 / 8 % 4) ≡ getD c 0 0 = omega (arith, zeros) in
+      sym (drop-cons c 0 0 (omega arith) ∙ ap (λ (r : List ℕ). getD c 0 0 ∷ r)
+      (drop-cons c 1 0 (omega arith) ∙ ap (λ (r : List ℕ). getD c 1 0 ∷ r) (drop-cons c 2 0 (omega arith)))
+      ∙ ap₂ (λ (x y : ℕ). x ∷ getD c 1 0 ∷ y ∷ drop 3 c) (sym b) (sym n))

@@ -1,0 +1,113 @@
+-- A gate's line by its kind, and gate lines by what is left of them.
+use mathlib.Core.Path.{_≡_, refl, sym, ap, ap₂, _∙_}
+use mathlib.Core.Bool.{true}
+use mathlib.Core.Logic.{inl, inr}
+use mathlib.Core.List.{List, [], _∷_, _++_, map}
+use Prim.Native.Nat.{ℕ, zero, suc, _+_, _*_, _≤_, _<_}
+use native.Mathlib.Numerals.{add-one}
+use native.Mathlib.Omega.{arith}
+use borrow.Author.Tests.{ltb-true}
+use lib.Dec.{ltb}
+use lib.ListN.{length, getD, drop, length-append, drop-of-length-le}
+use lib.Seq.{drop-cons, length-sets}
+use Rattle.logic.specs.Rules.{both}
+use Rattle.logic.proofs.Chain.{both-left, both-right}
+use Rattle.gate.specs.declared.Gate.{Gate}
+use Rattle.gate.specs.declared.Kind.the-variants.{Not, Cnot, Toffoli}
+use Rattle.gate.specs.Gates.{lawful, targetOf, gateOf}
+use Rattle.gate.proofs.Widen.{parts}
+use Rattle.gate.proofs.Published.{wires-inside}
+use Rattle.table.specs.Layouts.{Width}
+use Rattle.text.specs.Writing.{over, Wrote}
+use Rattle.text.proofs.Pieces.{over-append}
+use Rattle.revlib.specs.Grammar.{bytes, spaced, numvarsLine, variablesLine, constantsLine, constantsWord, heading, gateLine, body}
+use Rattle.revlib.specs.Writing.{lineFor, lettersFor, constantsFor}
+use Rattle.rendering.specs.Parts.{headingFor}
+
+module _ (b : ℕ) (g : Gate) (is : g ≡ gateOf b) where
+  pub line-not : g .kind ≡ Not → 116 ∷ 49 ∷ 32 ∷ (97 + g .target) ∷ 10 ∷ [] ≡ gateLine (lineFor b)
+  unfolding gateLine lineFor spaced
+  line-not e = rw (← is, e)
+
+  pub line-cnot : (a : ℕ) → g .kind ≡ Cnot a → 116 ∷ 50 ∷ 32 ∷ (97 + a) ∷ 32 ∷ (97 + g .target) ∷ 10 ∷ [] ≡ gateLine (lineFor b)
+  unfolding gateLine lineFor spaced
+  line-cnot a e = rw (← is, e)
+
+  pub line-toffoli : (a d : ℕ) → g .kind ≡ Toffoli a d
+      → 116 ∷ 51 ∷ 32 ∷ (97 + a) ∷ 32 ∷ (97 + d) ∷ 32 ∷ (97 + g .target) ∷ 10 ∷ [] ≡ gateLine (lineFor b)
+  unfolding gateLine lineFor spaced
+  line-toffoli a d e = rw (← is, e)
+
+  -- the wires of a lawful gate
+  module _ (h : lawful 2 5 b ≡ true) where
+    pub target-lt : g .target < 5
+    unfolding gateOf
+    target-lt = rw is (parts 2 5 b h .target)
+
+    pub cnot-lt : (a : ℕ) → g .kind ≡ Cnot a → a < 5
+    cnot-lt a e = ltb-true a 5 (rw (← is, e) at (wires-inside b h))
+
+    pub toffoli-lt : (a d : ℕ) → g .kind ≡ Toffoli a d → (a < 5) × (d < 5)
+    toffoli-lt a d e =
+        let i = rw (← is, e) at (wires-inside b h) in
+        (ltb-true a 5 (both-left (ltb a 5) (ltb d 5) i), ltb-true d 5 (both-right (ltb a 5) (ltb d 5) i))
+
+-- the lines from place k on
+module _ (gates : List ℕ) (k : ℕ) where
+  pub body-next : k < length gates
+      → body (map lineFor (drop k gates)) ≡ gateLine (lineFor (getD gates k 0)) ++ body (map lineFor (drop (k + 1) gates))
+  unfolding body
+  body-next h = rw (add-one, drop-cons gates k 0 h)
+
+  pub body-size : k < length gates
+      → length (body (map lineFor (drop k gates))) ≡ length (gateLine (lineFor (getD gates k 0))) + length (body (map lineFor (drop (k + 1) gates)))
+  body-size h = ap length (body-next h) ∙ length-append (gateLine (lineFor (getD gates k 0))) (body (map lineFor (drop (k + 1) gates)))
+
+  pub body-last : length gates ≤ k → body (map lineFor (drop k gates)) ≡ bytes ".end\n"
+  unfolding body
+  body-last h = rw (drop-of-length-le gates h)
+
+-- a line written, and the lines after it laid over
+pub laid-next : (gates : List ℕ) (k : ℕ) (out new : List ℕ) (at next : ℕ) → k < length gates
+    → Wrote out at (gateLine (lineFor (getD gates k 0))) new next
+    → over new next (body (map lineFor (drop (k + 1) gates))) ≡ over out at (body (map lineFor (drop k gates)))
+laid-next gates k out new at next h w =
+    let l = gateLine (lineFor (getD gates k 0)) in
+    let r = body (map lineFor (drop (k + 1) gates)) in
+    ap₂ (λ (o : List ℕ) (i : ℕ). over o i r) (w .bytes) (w .size) ∙ over-append l r out at ∙ ap (over out at) (sym (body-next gates k h))
+
+pub over-length : (out : List ℕ) (i : ℕ) (text : List ℕ) → length (over out i text) ≡ length out
+unfolding over
+over-length out i text = length-sets out i text
+
+-- the length of a heading
+pub heading-bare : (n : ℕ) → Width n → 42 + 2 * n ≡ length (headingFor n 0)
+unfolding headingFor heading numvarsLine variablesLine spaced constantsLine lettersFor constantsFor
+heading-bare n (inl e) = rw e
+heading-bare n (inr e) = rw e
+
+pub heading-more : (n : ℕ) → Width n → 57 + 3 * n ≡ length (headingFor n 1)
+unfolding headingFor heading numvarsLine variablesLine spaced constantsLine constantsWord lettersFor constantsFor
+heading-more n (inl e) = rw e
+heading-more n (inr e) = rw e
+
+pub few : (n : ℕ) → Width n → n ≤ 4
+few n (inl e) = omega arith
+few n (inr e) = omega arith
+
+-- the four headings, spelled out
+pub three-bare : headingFor 3 0 ≡ bytes ".version 2.0\n.numvars 3\n.variables a b c\n.begin\n"
+unfolding headingFor heading numvarsLine variablesLine spaced constantsLine lettersFor constantsFor
+three-bare = refl
+
+pub three-more : headingFor 3 1 ≡ bytes ".version 2.0\n.numvars 4\n.variables a b c d\n.constants ---0\n.begin\n"
+unfolding headingFor heading numvarsLine variablesLine spaced constantsLine constantsWord lettersFor constantsFor
+three-more = refl
+
+pub four-bare : headingFor 4 0 ≡ bytes ".version 2.0\n.numvars 4\n.variables a b c d\n.begin\n"
+unfolding headingFor heading numvarsLine variablesLine spaced constantsLine lettersFor constantsFor
+four-bare = refl
+
+pub four-more : headingFor 4 1 ≡ bytes ".version 2.0\n.numvars 5\n.variables a b c d e\n.constants ----0\n.begin\n"
+unfolding headingFor heading numvarsLine variablesLine spaced constantsLine constantsWord lettersFor constantsFor
+four-more = refl

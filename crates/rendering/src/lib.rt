@@ -1,0 +1,152 @@
+// The parts of a `.real` text, measured and written into a lent buffer.
+use gate::Kind;
+ghost use mathlib.Core.Path.{_≡_};
+ghost use mathlib.Core.Bool.{true};
+ghost use mathlib.Core.List.{map};
+ghost use Prim.Native.Nat.{_+_, _≤_, _<_};
+ghost use lib.ListN.{length};
+ghost use Rattle.logic.specs.Lists.{allOf};
+ghost use Rattle.gate.specs.Gates.{lawful};
+ghost use Rattle.table.specs.Layouts.{Width};
+ghost use Rattle.text.specs.Writing.{Wrote};
+ghost use Rattle.revlib.specs.Grammar.{gateLine, body};
+ghost use Rattle.revlib.specs.Writing.{letter, lineFor};
+ghost use Rattle.rendering.specs.Parts.{headingFor};
+
+fn letter(w: usize) -> u8
+    requires { ⌜ w < 5 ⌝ }
+    ensures { λ r. ⌜ r ≡ letter w ⌝ }
+{
+    97 + w as u8
+}
+
+// The length of a gate's line.
+fn line_size(b: u8) -> usize
+    ensures { λ r. ⌜ r ≡ length (gateLine (lineFor b)) ⌝ }
+    ensures { λ r. ⌜ r ≤ 9 ⌝ }
+{
+    let g = gate::decode(b);
+    let k = g.kind;
+    match k {
+        Kind::Not => 5,
+        Kind::Cnot(_) => 7,
+        Kind::Toffoli(_, _) => 9,
+    }
+}
+
+// The length of the gate lines and `.end`.
+pub fn body_size(gates: &[u8]) -> usize
+    requires { ⌜ length (now gates) ≤ 12 ⌝ }
+    ensures { λ r. ⌜ r ≡ length (body (map lineFor (now (gates .entry)))) ⌝ }
+    ensures { λ r. ⌜ r ≤ 113 ⌝ }
+{
+    let mut size = 5;
+    let mut i = 0;
+    while i < gates.len() {
+        size += line_size(gates[i]);
+        i += 1;
+    }
+    size
+}
+
+// Writes a gate's line at a place, and answers the next place, as all below.
+fn put_line(out: &mut [u8], i: usize, b: u8) -> usize
+    requires { ⌜ lawful 2 5 b ≡ true ⌝ }
+    requires { ⌜ i + length (gateLine (lineFor b)) ≤ length (now out) ⌝ }
+    ensures { λ r. ⌜ Wrote (now (out .entry)) i (gateLine (lineFor b)) (now (out .exit)) r ⌝ }
+{
+    let g = gate::decode(b);
+    let t = letter(g.target);
+    let k = g.kind;
+    match k {
+        Kind::Not => {
+            let word = [b't', b'1', b' ', t, b'\n'];
+            text::put_text(out, i, &word)
+        }
+        Kind::Cnot(a) => {
+            let word = [b't', b'2', b' ', letter(a), b' ', t, b'\n'];
+            text::put_text(out, i, &word)
+        }
+        Kind::Toffoli(a, d) => {
+            let word = [b't', b'3', b' ', letter(a), b' ', letter(d), b' ', t, b'\n'];
+            text::put_text(out, i, &word)
+        }
+    }
+}
+
+// Writes the gate lines and `.end`.
+pub fn put_body(out: &mut [u8], i: usize, gates: &[u8]) -> usize
+    requires { ⌜ allOf (lawful 2 5) (now gates) ≡ true ⌝ }
+    requires { ⌜ i + length (body (map lineFor (now gates))) ≤ length (now out) ⌝ }
+    ensures { λ r. ⌜ Wrote (now (out .entry)) i (body (map lineFor (now (gates .entry)))) (now (out .exit)) r ⌝ }
+{
+    let mut at = i;
+    let mut k = 0;
+    while k < gates.len() {
+        at = put_line(out, at, gates[k]);
+        k += 1;
+    }
+    text::put_text(out, at, b".end\n")
+}
+
+// The length of the heading of n data wires and m ancillas.
+pub fn heading_size(n: usize, m: usize) -> usize
+    requires { ⌜ Width n × (m ≤ 1) ⌝ }
+    ensures { λ r. ⌜ r ≡ length (headingFor n m) ⌝ }
+    ensures { λ r. ⌜ r ≤ 80 ⌝ }
+{
+    if m == 0 { 42 + 2 * n } else { 57 + 3 * n }
+}
+
+// Writes the heading of three data wires and m ancillas at the start.
+fn put_three(out: &mut [u8], m: usize) -> usize
+    requires { ⌜ (m ≤ 1) × (length (headingFor 3 m) ≤ length (now out)) ⌝ }
+    ensures { λ r. ⌜ Wrote (now (out .entry)) 0 (headingFor 3 m) (now (out .exit)) r ⌝ }
+{
+    if m == 0 {
+        text::put_text(
+            out,
+            0,
+            b".version 2.0\n.numvars 3\n.variables a b c\n.begin\n",
+        )
+    } else {
+        text::put_text(
+            out,
+            0,
+            b".version 2.0\n.numvars 4\n.variables a b c d\n.constants ---0\n.begin\n",
+        )
+    }
+}
+
+// The same for four data wires.
+fn put_four(out: &mut [u8], m: usize) -> usize
+    requires { ⌜ (m ≤ 1) × (length (headingFor 4 m) ≤ length (now out)) ⌝ }
+    ensures { λ r. ⌜ Wrote (now (out .entry)) 0 (headingFor 4 m) (now (out .exit)) r ⌝ }
+{
+    if m == 0 {
+        text::put_text(
+            out,
+            0,
+            b".version 2.0\n.numvars 4\n.variables a b c d\n.begin\n",
+        )
+    } else {
+        text::put_text(
+            out,
+            0,
+            b".version 2.0\n.numvars 5\n.variables a b c d e\n.constants ----0\n.begin\n",
+        )
+    }
+}
+
+// Writes the heading of n data wires and m ancillas at the start.
+pub fn put_heading(out: &mut [u8], n: usize, m: usize) -> usize
+    requires { ⌜ Width n × (m ≤ 1) ⌝ }
+    requires { ⌜ length (headingFor n m) ≤ length (now out) ⌝ }
+    ensures { λ r. ⌜ Wrote (now (out .entry)) 0 (headingFor n m) (now (out .exit)) r ⌝ }
+{
+    if n == 3 {
+        put_three(out, m)
+    } else {
+        put_four(out, m)
+    }
+}

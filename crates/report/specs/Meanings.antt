@@ -1,0 +1,67 @@
+-- What each refusal number means, in a sentence for whoever sent the job or the circuit.
+use mathlib.Core.List.{List, [], _∷_}
+use Prim.Native.Nat.{ℕ}
+use Prim.Native.String.{String}
+use lib.Dec.{eqb}
+use Rattle.logic.specs.Rules.{pick}
+use Rattle.logic.specs.Words.{bytes}
+
+infixl 20 _means_
+pub data Meaning : Type 0 where
+  _means_ : ℕ → String → Meaning
+
+abbrev pub jobMeanings : List Meaning
+jobMeanings =
+    (1 means "the job is not 20 or 28 bytes long")
+    ∷ (2 means "the job's length does not fit its data wires")
+    ∷ (3 means "the job's ancillas or spare bits are not lawful")
+    ∷ (4 means "the gate limit is above 12")
+    ∷ (5 means "a duration is 0")
+    ∷ (6 means "a row has a 1 outside its care mask or outputs")
+    ∷ []
+
+abbrev pub circuitMeanings : List Meaning
+circuitMeanings =
+    (7 means "the circuit is not 3 to 15 bytes long")
+    ∷ (8 means "the circuit's wires or spare bits are not lawful")
+    ∷ (9 means "the layout does not name each data wire once")
+    ∷ (10 means "the gate count is not the number of gate bytes")
+    ∷ (21 means "a gate is not lawful for the circuit's wires")
+    ∷ []
+
+abbrev pub verifyMeanings : List Meaning
+verifyMeanings =
+    (12 means "the circuit's wires are not those of the job")
+    ∷ (15 means "the job allows the plain layout only")
+    ∷ (16 means "the circuit does not realize the table")
+    ∷ (17 means "the circuit has more gates than the gate limit")
+    ∷ (18 means "the circuit costs more than the cost limit")
+    ∷ (19 means "the circuit is deeper than the depth limit")
+    ∷ []
+
+-- of the other calls: searching, running, and reading a circuit's text
+abbrev pub otherMeanings : List Meaning
+otherMeanings =
+    (13 means "the answer buffer has fewer than 15 bytes")
+    ∷ (14 means "no circuit within the limits realizes the table")
+    ∷ (20 means "the value does not fit the circuit's wires")
+    ∷ (22 means "the text departs from the form of a circuit")
+    ∷ (23 means "the text has more than 12 gates")
+    ∷ []
+
+-- what a list says of a number, and else what the rest says
+unfoldable pub said : ℕ → List Meaning → List ℕ → List ℕ
+said n [] rest = rest
+said n ((k means words) ∷ ms) rest = pick (eqb n k) (bytes words) (said n ms rest)
+
+unfoldable pub otherMeaning : ℕ → List ℕ
+otherMeaning n = said n otherMeanings (bytes "no rule has this number")
+
+unfoldable pub verifyMeaning : ℕ → List ℕ
+verifyMeaning n = said n verifyMeanings (otherMeaning n)
+
+unfoldable pub circuitMeaning : ℕ → List ℕ
+circuitMeaning n = said n circuitMeanings (verifyMeaning n)
+
+unfoldable pub meaning : ℕ → List ℕ
+meaning n = said n jobMeanings (circuitMeaning n)

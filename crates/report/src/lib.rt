@@ -1,0 +1,108 @@
+// What is printed for an answer of `verify`, as bytes written into a lent buffer.
+use text::put_text;
+use verify::Measured;
+use verify::Measures;
+ghost use mathlib.Core.Path.{_≡_};
+ghost use Prim.Native.Nat.{_+_, _≤_};
+ghost use lib.ListN.{length};
+ghost use Rattle.verify.specs.Calls.{measuredAnswer};
+ghost use Rattle.text.specs.Text.{inFront};
+ghost use Rattle.text.specs.Writing.{Wrote};
+ghost use Rattle.report.specs.Meanings.{otherMeaning, verifyMeaning, circuitMeaning, meaning};
+ghost use Rattle.report.specs.Report.{passedLine, refusedText, reportOf};
+
+fn put_other_meaning(out: &mut [u8], i: usize, code: u8) -> usize
+    requires { ⌜ i + 64 ≤ length (now out) ⌝ }
+    ensures { λ r. ⌜ Wrote (now (out .entry)) i (otherMeaning code) (now (out .exit)) r ⌝ }
+{
+    match code {
+        13 => put_text(out, i, b"the answer buffer has fewer than 15 bytes"),
+        14 => put_text(out, i, b"no circuit within the limits realizes the table"),
+        20 => put_text(out, i, b"the value does not fit the circuit's wires"),
+        22 => put_text(out, i, b"the text departs from the form of a circuit"),
+        23 => put_text(out, i, b"the text has more than 12 gates"),
+        _ => put_text(out, i, b"no rule has this number"),
+    }
+}
+
+fn put_verify_meaning(out: &mut [u8], i: usize, code: u8) -> usize
+    requires { ⌜ i + 64 ≤ length (now out) ⌝ }
+    ensures { λ r. ⌜ Wrote (now (out .entry)) i (verifyMeaning code) (now (out .exit)) r ⌝ }
+{
+    match code {
+        12 => put_text(out, i, b"the circuit's wires are not those of the job"),
+        15 => put_text(out, i, b"the job allows the plain layout only"),
+        16 => put_text(out, i, b"the circuit does not realize the table"),
+        17 => put_text(out, i, b"the circuit has more gates than the gate limit"),
+        18 => put_text(out, i, b"the circuit costs more than the cost limit"),
+        19 => put_text(out, i, b"the circuit is deeper than the depth limit"),
+        _ => put_other_meaning(out, i, code),
+    }
+}
+
+fn put_circuit_meaning(out: &mut [u8], i: usize, code: u8) -> usize
+    requires { ⌜ i + 64 ≤ length (now out) ⌝ }
+    ensures { λ r. ⌜ Wrote (now (out .entry)) i (circuitMeaning code) (now (out .exit)) r ⌝ }
+{
+    match code {
+        7 => put_text(out, i, b"the circuit is not 3 to 15 bytes long"),
+        8 => put_text(out, i, b"the circuit's wires or spare bits are not lawful"),
+        9 => put_text(out, i, b"the layout does not name each data wire once"),
+        10 => put_text(out, i, b"the gate count is not the number of gate bytes"),
+        21 => put_text(out, i, b"a gate is not lawful for the circuit's wires"),
+        _ => put_verify_meaning(out, i, code),
+    }
+}
+
+// Writes what a refusal number means, without a line feed.
+fn put_meaning(out: &mut [u8], i: usize, code: u8) -> usize
+    requires { ⌜ i + 64 ≤ length (now out) ⌝ }
+    ensures { λ r. ⌜ Wrote (now (out .entry)) i (meaning code) (now (out .exit)) r ⌝ }
+{
+    match code {
+        1 => put_text(out, i, b"the job is not 20 or 28 bytes long"),
+        2 => put_text(out, i, b"the job's length does not fit its data wires"),
+        3 => put_text(out, i, b"the job's ancillas or spare bits are not lawful"),
+        4 => put_text(out, i, b"the gate limit is above 12"),
+        5 => put_text(out, i, b"a duration is 0"),
+        6 => put_text(out, i, b"a row has a 1 outside its care mask or outputs"),
+        _ => put_circuit_meaning(out, i, code),
+    }
+}
+
+// Writes `passed` and the measures at the start of the buffer, and answers the line's length.
+pub fn passed_line(m: Measures, out: &mut [u8]) -> usize
+    requires { ⌜ 128 ≤ length (now out) ⌝ }
+    ensures { λ r. ⌜ r ≡ length (passedLine m) ⌝ }
+    ensures { λ _. ⌜ now (out .exit) ≡ inFront (passedLine m) (now (out .entry)) ⌝ }
+{
+    let a = put_text(out, 0, b"passed ");
+    let b = text::put_spaced(out, a, m.gates as usize);
+    let c = text::put_spaced(out, b, m.cost as usize);
+    let d = text::put_decimal(out, c, m.depth as usize);
+    text::put(out, d, b'\n')
+}
+
+// Writes `refused`, the number and what it means at the start of the buffer, and answers the length of both lines.
+pub fn refused_text(code: u8, out: &mut [u8]) -> usize
+    requires { ⌜ 128 ≤ length (now out) ⌝ }
+    ensures { λ r. ⌜ r ≡ length (refusedText code) ⌝ }
+    ensures { λ _. ⌜ now (out .exit) ≡ inFront (refusedText code) (now (out .entry)) ⌝ }
+{
+    let a = text::put_refused(out, 0, code);
+    let b = put_meaning(out, a, code);
+    text::put(out, b, b'\n')
+}
+
+// Writes what is printed for an answer of `verify` at the start of the buffer, and answers its length.
+pub fn report(answer: Measured, out: &mut [u8]) -> usize
+    requires { ⌜ 128 ≤ length (now out) ⌝ }
+    ensures { λ r. ⌜ r ≡ length (reportOf (measuredAnswer answer)) ⌝ }
+    ensures { λ r. ⌜ r ≤ 128 ⌝ }
+    ensures { λ _. ⌜ now (out .exit) ≡ inFront (reportOf (measuredAnswer answer)) (now (out .entry)) ⌝ }
+{
+    match answer {
+        Measured::Refused(code) => refused_text(code, out),
+        Measured::Within(m) => passed_line(m, out),
+    }
+}

@@ -1,0 +1,5 @@
+pub mod Samples
+pub mod Exact
+pub mod Promises
+pub mod Sound
+pub mod RoundTrip

@@ -1,0 +1,142 @@
+-- The text of a circuit says the circuit.
+use mathlib.Core.Path.{_≡_, refl, sym, ap, ap₂, _∙_}
+use mathlib.Core.Bool.{Bool, true, false}
+use mathlib.Core.Logic.{_⊎_, inl, inr, ⊎-elim}
+use mathlib.Core.List.{List, [], _∷_, _++_, map}
+use Prim.Native.Nat.{ℕ, zero, suc, _+_, _-_, _*_, _≤_, _<_}
+use native.Mathlib.Decide.{ℕ-discrete}
+use native.Mathlib.Omega.{arith}
+use borrow.Author.Tests.{eqb-true, eq-eqb, ne-eqb}
+use lib.Count.{ones, onesIn, trailingZeros, leadingZeros}
+use lib.Dec.{eqb, leb, lit<}
+use lib.ListN.{length, length-append, length-map}
+use Rattle.logic.specs.Rules.{both, implies, pick, rule, allBelow}
+use Rattle.logic.specs.Lists.{allOf, numbersFrom}
+use Rattle.logic.specs.Answers.{answered}
+use Rattle.logic.proofs.Chain.{both-left, both-right, both-parts, both-true, implied, rule-kept, and-then-zero}
+use Rattle.logic.proofs.Below.{below}
+use Rattle.gate.specs.Gates.{lawful, gateOf}
+use Rattle.gate.proofs.Widen.{lawful-lt}
+use Rattle.table.specs.Layouts.{Width, plain}
+use Rattle.record.specs.Jobs.{dataWires, ancillas, wires}
+use Rattle.record.specs.Circuits.{layoutOf, gates, circuitCode, circuitBytes}
+use Rattle.record.proofs.Kept.{sound-circuit, circuit-wires-within}
+use Rattle.record.proofs.Written.{rebuilt}
+use Rattle.revlib.specs.Grammar.{bytes, Constants, Description, ancillaCount, spaced, numvarsLine, variablesLine, constantsLine, constantsWord, heading, gateLine, body, render, isIn, different, lowerCase, dataCount, headingOk, declared, lineOk, wellFormed, wireOf, gateByte, recordOf}
+use Rattle.revlib.specs.Reading.{readOf}
+use Rattle.revlib.specs.Demand.{Fits}
+use Rattle.revlib.specs.Writing.{Reply, lineFor, lettersFor, constantsFor, describe, textOf, textCode, writeOf}
+use Rattle.revlib.proofs.Exact.{line-count, line-length}
+use Rattle.revlib.proofs.Promises.{accepted}
+
+-- a lawful gate's line keeps the rules and stands for the gate, computed
+abbrev told : ℕ → ℕ → Bool
+told w b = implies (lawful 2 w b) (both (lineOk (lettersFor w) (lineFor b)) (eqb (gateByte (lettersFor w) (lineFor b)) b))
+
+abbrev all-told : ℕ → Bool
+all-told w = allBelow 160 (told w)
+
+every-told : allBelow 6 all-told ≡ true
+unfolding lawful gateOf ones onesIn trailingZeros leadingZeros lettersFor lineFor lineOk different isIn allOf gateByte wireOf
+every-told = refl
+
+module _ (w : ℕ) (few : w ≤ 5) where
+  line-told : (b : ℕ) → lawful 2 w b ≡ true → (lineOk (lettersFor w) (lineFor b) ≡ true) × (gateByte (lettersFor w) (lineFor b) ≡ b)
+  line-told b h =
+      let ok = lineOk (lettersFor w) (lineFor b) in
+      let same = eqb (gateByte (lettersFor w) (lineFor b)) b in
+      let p = both-parts ok same (implied (lawful 2 w b) (both ok same) (below 160 (told w) (below 6 all-told every-told w (omega arith)) b (lawful-lt 2 w b few h)) h) in
+      (p .0, eqb-true (gateByte (lettersFor w) (lineFor b)) b (p .1))
+
+  lines-ok : (gs : List ℕ) → allOf (lawful 2 w) gs ≡ true → allOf (lineOk (lettersFor w)) (map lineFor gs) ≡ true
+  unfolding allOf
+  lines-ok [] h = refl
+  lines-ok (b ∷ gs) h = let p = both-parts (lawful 2 w b) (allOf (lawful 2 w) gs) h in both-true (line-told b (p .0) .0) (lines-ok gs (p .1))
+
+  gates-back : (gs : List ℕ) → allOf (lawful 2 w) gs ≡ true → map (gateByte (lettersFor w)) (map lineFor gs) ≡ gs
+  unfolding allOf
+  gates-back [] h = refl
+  gates-back (b ∷ gs) h =
+      let p = both-parts (lawful 2 w b) (allOf (lawful 2 w) gs) h in
+      ap₂ (λ (x : ℕ) (l : List ℕ). x ∷ l) (line-told b (p .0) .1) (gates-back gs (p .1))
+
+  body-length : (gs : List ℕ) → allOf (lawful 2 w) gs ≡ true → length (body (map lineFor gs)) ≤ 5 + 9 * length gs
+  unfolding allOf body
+  body-length [] h = omega arith
+  body-length (b ∷ gs) h =
+      let p = both-parts (lawful 2 w b) (allOf (lawful 2 w) gs) h in
+      let k = line-count (lettersFor w) (lineFor b) (line-told b (p .0) .0) in
+      omega (arith, length-append (gateLine (lineFor b)) (body (map lineFor gs)), line-length (lineFor b), body-length gs (p .1))
+
+-- the four headings keep the rules, name n and m, and are short
+heading-facts : (n m : ℕ) → Width n → m ≤ 1
+    → (headingOk (lettersFor (n + m)) (constantsFor m) ≡ true)
+    × ((dataCount (lettersFor (n + m)) (constantsFor m) ≡ n)
+    × ((ancillaCount (constantsFor m) ≡ m) × (length (heading (lettersFor (n + m)) (constantsFor m)) ≤ 80)))
+unfolding headingOk dataCount lettersFor constantsFor different isIn allOf lowerCase heading numvarsLine variablesLine spaced constantsLine constantsWord
+heading-facts n zero (inl e) h = rw e (refl, (refl, (refl, omega arith)))
+heading-facts n (suc zero) (inl e) h = rw e (refl, (refl, (refl, omega arith)))
+heading-facts n zero (inr e) h = rw e (refl, (refl, (refl, omega arith)))
+heading-facts n (suc zero) (inr e) h = rw e (refl, (refl, (refl, omega arith)))
+heading-facts n (suc (suc m)) w h = absurd (omega arith)
+
+-- A circuit that breaks no rule, with plain layout.
+module _ (c : List ℕ) (sound : circuitCode c ≡ 0) where
+  facts : (headingOk (lettersFor (wires c)) (constantsFor (ancillas c)) ≡ true)
+      × ((dataCount (lettersFor (wires c)) (constantsFor (ancillas c)) ≡ dataWires c)
+      × ((ancillaCount (constantsFor (ancillas c)) ≡ ancillas c) × (length (heading (lettersFor (wires c)) (constantsFor (ancillas c))) ≤ 80)))
+  unfolding wires
+  facts = let s = sound-circuit c sound in heading-facts (dataWires c) (ancillas c) (s .width) (s .spare)
+
+  few-wires : wires c ≤ 5
+  few-wires = circuit-wires-within c sound .1
+
+  lawful-gates : allOf (lawful 2 (wires c)) (gates c) ≡ true
+  lawful-gates = sound-circuit c sound .kept
+
+  well : wellFormed (describe c) ≡ true
+  unfolding wellFormed describe
+  well = both-true (facts .0) (lines-ok (wires c) few-wires (gates c) lawful-gates)
+
+  -- at most 80 bytes, nine a gate and five
+  pub text-short : length (textOf c) ≤ 193
+  unfolding textOf render describe
+  text-short =
+      let k = sound-circuit c sound .few in
+      omega (
+        arith,
+        length-append (heading (lettersFor (wires c)) (constantsFor (ancillas c))) (body (map lineFor (gates c))),
+        facts .1 .1 .1,
+        body-length (wires c) few-wires (gates c) lawful-gates,
+      )
+
+  same-record : layoutOf c ≡ plain (dataWires c) → recordOf (describe c) ≡ c
+  unfolding recordOf describe
+  same-record e =
+      rw (facts .1 .0, facts .1 .1 .0, gates-back (wires c) few-wires (gates c) lawful-gates, ← e) (rebuilt c sound)
+
+  -- reading what was written gives the record back
+  pub round-trip : layoutOf c ≡ plain (dataWires c) → (room : ℕ) → 15 ≤ room → readOf (textOf c) room ≡ answered c
+  unfolding textOf describe
+  round-trip e room wide =
+      let k = sound-circuit c sound .few in
+      accepted (textOf c) room wide c .1
+      (describe c, (record { well = well; rendered = refl; short = omega (arith, text-short) }, (rw (length-map (gates c) lineFor) k, same-record e)))
+
+-- The same of the call: whatever text it writes is read as the circuit.
+pub written-read : (c : List ℕ) (room : ℕ) (text : List ℕ) → writeOf c room ≡ Reply.answered text → (wide : ℕ) → 15 ≤ wide → readOf text wide ≡ answered c
+unfolding writeOf textCode
+written-read c room text h wide k = by-code (ℕ-discrete (textCode c) 0)
+  where
+    by-size : textCode c ≡ 0 → (t : Bool) → leb (length (textOf c)) room ≡ t → pick t (Reply.answered (textOf c)) (Reply.short 13 (length (textOf c))) ≡ Reply.answered text
+        → readOf text wide ≡ answered c
+    by-size z true e w =
+        let same : textOf c ≡ text = cc in
+        let p = and-then-zero (circuitCode c) (rule (eqb (layoutOf c) (plain (dataWires c))) 15 0) z in
+        let laid = rule-kept (eqb (layoutOf c) (plain (dataWires c))) 15 0 (lit< tt) (p .1) .0 in
+        ap (λ (l : List ℕ). readOf l wide) (sym same) ∙ round-trip c (p .0) (eqb-true (layoutOf c) (plain (dataWires c)) laid) wide k
+    by-size z false e w = let n : _≡_ {A = ℕ} 0 1 = cc in absurd (omega arith)
+
+    by-code : Dec (textCode c ≡ 0) → readOf text wide ≡ answered c
+    by-code (yes z) = by-size z (leb (length (textOf c)) room) refl (rw (eq-eqb (textCode c) 0 z) at h)
+    by-code (no n) = let w = rw (ne-eqb (textCode c) 0 n) at h in let z : _≡_ {A = ℕ} 0 1 = cc in absurd (omega arith)

@@ -1,0 +1,58 @@
+-- What the loops over a word, a list of letters and a line still owe when they have passed i places.
+use mathlib.Core.Path.{_≡_, refl, sym, _∙_}
+use mathlib.Core.Bool.{Bool, true, false, not}
+use mathlib.Core.List.{List, [], _∷_}
+use Prim.Native.Nat.{ℕ, suc, _+_, _≤_, _<_}
+use native.Mathlib.Numerals.{add-one}
+use native.Mathlib.Omega.{arith}
+use lib.Dec.{eqb}
+use lib.ListN.{length, drop, getD, drop-of-length-le}
+use lib.Seq.{drop-cons}
+use Rattle.logic.specs.Rules.{both, either}
+use Rattle.revlib.specs.Grammar.{isIn, different, wireOf}
+use Rattle.revlib.specs.Reading.{starts}
+
+module _ (word s : List ℕ) (i : ℕ) (more : i < length word) where
+  pub starts-turn : (t : Bool) → i < length s → eqb (getD s i 0) (getD word i 0) ≡ t
+      → starts (drop i word) (drop i s) ≡ both t (starts (drop (i + 1) word) (drop (i + 1) s))
+  unfolding starts
+  starts-turn t h e = rw (← e, add-one, drop-cons word i 0 more, drop-cons s i 0 h)
+
+  pub starts-short : length s ≤ i → starts (drop i word) (drop i s) ≡ false
+  unfolding starts
+  starts-short h = rw (drop-cons word i 0 more, drop-of-length-le s h)
+
+pub starts-done : (word s : List ℕ) (i : ℕ) → length word ≤ i → starts (drop i word) (drop i s) ≡ true
+unfolding starts
+starts-done word s i h = rw (drop-of-length-le word h)
+
+module _ (l : List ℕ) (i : ℕ) (more : i < length l) (t : Bool) where
+  pub in-turn : (x : ℕ) → eqb (getD l i 0) x ≡ t → isIn x (drop i l) ≡ either t (isIn x (drop (i + 1) l))
+  unfolding isIn
+  in-turn x e = rw (← e, add-one, drop-cons l i 0 more)
+
+  pub different-turn : isIn (getD l i 0) (drop (i + 1) l) ≡ t → different (drop i l) ≡ both (not t) (different (drop (i + 1) l))
+  unfolding different
+  different-turn e = rw (← e, add-one, drop-cons l i 0 more)
+
+module _ (l : List ℕ) (i : ℕ) (x : ℕ) (more : i < length l) where
+  pub wire-here : eqb (getD l i 0) x ≡ true → wireOf (drop i l) x ≡ 0
+  unfolding wireOf
+  wire-here e = rw (drop-cons l i 0 more, e)
+
+  pub wire-later : eqb (getD l i 0) x ≡ false → wireOf (drop i l) x ≡ suc (wireOf (drop (i + 1) l) x)
+  unfolding wireOf
+  wire-later e = rw (drop-cons l i 0 more, add-one, e)
+
+module _ (l : List ℕ) (i : ℕ) (end : length l ≤ i) where
+  pub in-done : (x : ℕ) → isIn x (drop i l) ≡ false
+  unfolding isIn
+  in-done x = rw (drop-of-length-le l end)
+
+  pub different-done : different (drop i l) ≡ true
+  unfolding different
+  different-done = rw (drop-of-length-le l end)
+
+  pub wire-done : (x : ℕ) → wireOf (drop i l) x ≡ 0
+  unfolding wireOf
+  wire-done x = rw (drop-of-length-le l end)

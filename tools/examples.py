@@ -76,7 +76,9 @@ def verdict(job, circuit):
     code, measures = reference.verify_call(job, circuit)
     if code:
         return f"refused {code}\n{MEANINGS[code]}\n"
-    return "passed {} {} {}\n".format(*measures)
+    asked, given = reference.read_job(job), reference.read_circuit(circuit)
+    ready = reference.ready_times(given.gates, asked.durations)
+    return "passed {} {} {}\nready {} {} {} {} {}\n".format(*measures, *ready)
 
 
 def put(folder, name, content):

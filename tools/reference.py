@@ -85,6 +85,11 @@ def ready_times(gates, durations):
     return ready
 
 
+def ready_words(gates, durations):
+    """How the test programs print the ready times of five wires."""
+    return " ".join(["ready"] + [str(time) for time in ready_times(gates, durations)])
+
+
 def measures_of(gates, prices, durations):
     """Prices and durations are triples: of a NOT, a CNOT, a Toffoli."""
     cost = sum(prices[kind_of(gate)] for gate in gates)

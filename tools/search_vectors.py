@@ -6,7 +6,7 @@ usage: search_vectors.py DATA_FILE STDOUT_FILE [--bench FOLDER]
 A call is `search JOBHEX RR`: the job in upper-case hexadecimal (`-` for an empty job) and
 the length of the answer buffer. The test program fills byte i of the buffer with
 (0xA0 + i) mod 256, calls the search and prints `refused N BUFFERHEX` or
-`found L G C D BUFFERHEX`, the buffer whole, `-` for an empty one. Headings start with `#`
+`found L G C D ready T0 T1 T2 T3 T4 BUFFERHEX`, the buffer whole, `-` for an empty one. Headings start with `#`
 and are echoed.
 
 Expected values come from bench/brute.rs (every list of gates, every layout; no skipping), or
@@ -21,6 +21,7 @@ import sys
 import tempfile
 
 from jobs import NO_LIMIT, after, job, sbox
+from reference import ready_words
 
 HERE = os.path.dirname(os.path.abspath(__file__))
 SAMPLE_ROWS = [0, 2, 1, 3, 4, 6, 5, 7]
@@ -166,7 +167,7 @@ class Vectors:
         if words[0] == "found":
             circuit = bytes.fromhex(words[4])
             buffer = circuit + buffer[len(circuit):]
-            words = ["found", str(len(circuit))] + words[1:4]
+            words = ["found", str(len(circuit))] + words[1:4] + [ready_words(circuit[3:], record[9:12])]
         self.calls.append(f"search {record.hex().upper() or '-'} {room:02X}")
         self.lines.append(" ".join(words + [buffer.hex().upper() or "-"]))
         self.sources[source] = self.sources.get(source, 0) + 1

@@ -13,7 +13,7 @@ heading and is printed as it is.
     job HEX | circuit HEX               sound
     every HEX                           codes, and the code of the circuit with each count byte, 0 to 255
     forwards HEX VV | backwards HEX VV  value VV
-    measure JOB CIRCUIT | verify ..     within GATES COST DEPTH (decimal)
+    measure JOB CIRCUIT | verify ..     within GATES COST DEPTH ready T0 T1 T2 T3 T4 (decimal)
     parity JOB                          even | odd | neither
     and any of them                     refused CODE
 
@@ -160,12 +160,17 @@ def answer(line):
     elif name in ("measure", "verify"):
         call = ref.measure_call if name == "measure" else ref.verify_call
         code, measured = call(args[0], args[1])
-        text = "refused" if code else "within %d %d %d" % measured
+        text = "refused" if code else "within %d %d %d %s" % (*measured, ready(*args))
     elif name == "parity":
         code, text = ref.parity_call(args[0])
     else:
         raise ValueError(line)
     return "refused %d" % code if code else text
+
+
+def ready(job, circuit):
+    """When each of five wires comes free, as it is printed."""
+    return ref.ready_words(ref.read_circuit(circuit).gates, ref.read_job(job).durations)
 
 
 class Calls:
@@ -185,7 +190,7 @@ class Calls:
         got = answer(line)
         if isinstance(want, int):
             want = "refused %d" % want
-        if want is not None and want != got:
+        if want is not None and want != got.split(" ready")[0] and want != got:
             raise AssertionError("%s\n  gives %s, want %s" % (line, got, want))
         self.lines.append(line)
         self.answers.append(got)
@@ -642,6 +647,17 @@ def measure_few(calls):
     slow = job(4, own(4), durations=(1, 2, 7))
     calls.add(within((4, 8, 11)), "measure", slow, circuit(4, 0, bytes.fromhex("282C0004")))
     calls.add(within((4, 8, 12)), "measure", slow, circuit(4, 0, bytes.fromhex("282C0400")))
+    calls.heading("measure: when each wire comes free; wires that no gate touches, wires that the circuit lacks")
+    for n, m, gates, want in (
+            (3, 0, "", "0 0 0 ready 0 0 0 0 0"), (3, 0, "00", "1 1 1 ready 1 0 0 0 0"),
+            (3, 0, "20", "1 1 1 ready 0 1 0 0 0"), (3, 0, "40", "1 1 1 ready 0 0 1 0 0"),
+            (3, 0, "2143", "2 6 8 ready 8 8 8 0 0"), (3, 0, "4121", "2 2 2 ready 2 2 1 0 0"),
+            (3, 1, "60", "1 1 1 ready 0 0 0 1 0"), (3, 1, "4361", "2 6 8 ready 8 7 7 8 0"),
+            (4, 0, "60", "1 1 1 ready 0 0 0 1 0"), (4, 0, "4360", "2 6 7 ready 7 7 7 1 0"),
+            (4, 1, "80", "1 1 1 ready 0 0 0 0 1"), (4, 1, "9020", None),
+            (4, 1, "8374", "2 10 14 ready 7 7 14 14 14"), (4, 1, "48", "1 1 1 ready 0 0 1 1 0")):
+        want = 21 if want is None else "within " + want
+        calls.add(want, "measure", job(n, own(n), m), circuit(n, m, bytes.fromhex(gates)))
 
 
 def measure_ends(calls):
@@ -1050,7 +1066,7 @@ def check_refusals():
     refused(20, "forwards %s 08" % word(given))
     refused(20, "backwards %s 08" % word(given))
     swap = job(3, exchanged(3, 3, 7), gates=1, cost=5, depth=7)
-    assert answer("verify %s %s" % (word(swap), word(given))) == "within 1 5 7"
+    assert answer("verify %s %s" % (word(swap), word(given))) == "within 1 5 7 ready 7 7 7 0 0"
     for code, asked, other in (
             (12, swap, put(given, 0, 0x68)), (12, swap, circuit(4, 0, [0x43])),
             (15, swap, put(given, 1, 0x24)), (16, job(3, own(3), gates=0), given),
@@ -1061,7 +1077,8 @@ def check_refusals():
 def check_samples():
     for asked, given, want in samples():
         want = "refused %d" % want if isinstance(want, int) else within(want)
-        assert answer("verify %s %s" % (word(asked), given)) == want, (word(asked), given)
+        got = answer("verify %s %s" % (word(asked), given)).split(" ready")[0]
+        assert got == want, (word(asked), given)
 
 
 def self_check():

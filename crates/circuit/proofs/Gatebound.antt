@@ -92,6 +92,21 @@ module _ (w b : ℕ) (hw : w ≤ 5) (h : lawful 2 w b ≡ true) where
         sum-later ts (hold (gateOf b) d ts) d (targetOf b) (sym (length-hold (gateOf b) d ts)) (hold-rises (gateOf b) d ts) t
         (rw (hold-at (gateOf b) d ts (targetOf b) t, s) (omega (arith, start-after (gateOf b) ts (targetOf b) s)))
 
+module _ (duration : ℕ → ℕ) (w : ℕ) (hw : w ≤ 5) where
+  quiet-run : (gs ts : List ℕ) → allOf (lawful 2 w) gs ≡ true → length ts ≡ 5 → ((i : ℕ) → w ≤ i → getD ts i 0 ≡ 0)
+      → (i : ℕ) → w ≤ i → getD (along (holdByte duration) gs ts) i 0 ≡ 0
+  unfolding allOf along
+  quiet-run [] ts h l z = z
+  quiet-run (b ∷ gs) ts h l z =
+      let hb = both-left (lawful 2 w b) (allOf (lawful 2 w) gs) h in
+      quiet-run gs (holdByte duration b ts) (both-right (lawful 2 w b) (allOf (lawful 2 w) gs) h)
+      (length-hold (gateOf b) (duration b) ts ∙ l)
+      (quiet w b hw hb (duration b) ts l z)
+
+  -- wires from w on are ready from the start: no gate of w wires holds them
+  pub quiet-ready : (gs : List ℕ) → allOf (lawful 2 w) gs ≡ true → (i : ℕ) → w ≤ i → getD (readyTimes duration gs) i 0 ≡ 0
+  quiet-ready gs h = quiet-run gs idle h refl (λ i hi. omega (arith, idle-until i))
+
 module _ (duration : ℕ → ℕ) (slow : (b : ℕ) → 1 ≤ duration b) (w : ℕ) (hw : w ≤ 5) where
   sum-grows : (gs ts : List ℕ) → allOf (lawful 2 w) gs ≡ true → length ts ≡ 5 → sum ts + length gs ≤ sum (along (holdByte duration) gs ts)
   unfolding allOf along
@@ -106,27 +121,14 @@ module _ (duration : ℕ → ℕ) (slow : (b : ℕ) → 1 ≤ duration b) (w : �
             (length-hold (gateOf b) (duration b) ts ∙ l),
       )
 
-  quiet-run : (gs ts : List ℕ) → allOf (lawful 2 w) gs ≡ true → length ts ≡ 5 → ((i : ℕ) → w ≤ i → getD ts i 0 ≡ 0)
-      → (i : ℕ) → w ≤ i → getD (along (holdByte duration) gs ts) i 0 ≡ 0
-  unfolding allOf along
-  quiet-run [] ts h l z = z
-  quiet-run (b ∷ gs) ts h l z =
-      let hb = both-left (lawful 2 w b) (allOf (lawful 2 w) gs) h in
-      quiet-run gs (holdByte duration b ts) (both-right (lawful 2 w b) (allOf (lawful 2 w) gs) h)
-      (length-hold (gateOf b) (duration b) ts ∙ l)
-      (quiet w b hw hb (duration b) ts l z)
-
   pub gates-by-depth : (gs : List ℕ) → allOf (lawful 2 w) gs ≡ true → length gs ≤ w * depth duration gs
   gates-by-depth gs h =
       let r = readyTimes duration gs in
       omega (
         arith,
         sum-grows gs idle h refl,
-        sum-within r w (greatest r) (until-greatest r) (quiet-run gs idle h refl (λ i hi. le-zero (idle-until i))),
+        sum-within r w (greatest r) (until-greatest r) (quiet-ready duration w hw gs h),
       )
-    where
-      le-zero : {n : ℕ} → n ≤ 0 → n ≡ 0
-      le-zero h = omega arith
 
   pub depth-least : (gs : List ℕ) → 0 < w → allOf (lawful 2 w) gs ≡ true → roundedUp (length gs) w ≤ depth duration gs
   depth-least gs pos h =

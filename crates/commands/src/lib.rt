@@ -27,7 +27,8 @@ fn usage() {
     say(b"\nverify JOB CIRCUIT\n");
     say(b"    Judges a circuit for a job. JOB names the file of a job record, CIRCUIT that of\n");
     say(b"    a circuit record, or of RevLib text, which begins with .version.\n");
-    say(b"    Prints `passed GATES COST DEPTH`, or `refused NUMBER` and what it means.\n");
+    say(b"    Prints `passed GATES COST DEPTH` and, on a second line, `ready` and the time at\n");
+    say(b"    which each of five wires comes free; or `refused NUMBER` and what it means.\n");
     say(b"\nA file that cannot be read gets the line `unreadable NAME`.\n");
 }
 

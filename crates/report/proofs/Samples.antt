@@ -3,10 +3,13 @@ use mathlib.Core.Path.{_≡_, refl}
 use Rattle.logic.specs.Words.{bytes}
 use Rattle.text.specs.Text.{place, decimal, spaced, refusedLine}
 use Rattle.report.specs.Meanings.{said, otherMeaning, verifyMeaning, circuitMeaning, meaning}
-use Rattle.report.specs.Report.{passedLine, refusedText}
+use Rattle.report.specs.Report.{passedLine, times, readyLine, passedText, refusedText}
 
-pub passed-sample : passedLine (record { gates = 8; cost = 24; depth = 32 }) ≡ bytes "passed 8 24 32\n"
-unfolding passedLine spaced decimal place
+-- document 01's gates 21 43, at prices 1, 1, 5 and durations 1, 1, 7
+pub passed-sample
+    : passedText (record { gates = 2; cost = 6; depth = 8; ready0 = 8; ready1 = 8; ready2 = 8; ready3 = 0; ready4 = 0 })
+    ≡ bytes "passed 2 6 8\nready 8 8 8 0 0\n"
+unfolding passedText passedLine readyLine times spaced decimal place
 passed-sample = refl
 
 pub refused-sample : refusedText 16 ≡ bytes "refused 16\nthe circuit does not realize the table\n"

@@ -15,7 +15,7 @@ use Rattle.text.specs.Text.{refusedLine}
 use Rattle.text.proofs.Pieces.{decimal-short, spaced-short}
 use Rattle.report.specs.Meanings.{Meaning, _means_, jobMeanings, circuitMeanings, verifyMeanings, otherMeanings}
 use Rattle.report.specs.Meanings.{said, otherMeaning, verifyMeaning, circuitMeaning, meaning}
-use Rattle.report.specs.Report.{passedLine, refusedText}
+use Rattle.report.specs.Report.{passedLine, times, readyLine, passedText, refusedText}
 
 -- no sentence of a list has more than 64 bytes
 abbrev brief : List Meaning → Bool
@@ -48,6 +48,27 @@ pub refused-short : (code : ℕ) → length (refusedText code) ≤ 128
 unfolding refusedText
 refused-short code = simp length-append (omega (arith, refused-line-short code, meaning-short code))
 
-pub passed-short : (m : Measures) → length (passedLine m) ≤ 128
+pub passed-line-short : (m : Measures) → length (passedLine m) ≤ 25
 unfolding passedLine
-passed-short m = simp length-append (omega (arith, spaced-short (m .gates), spaced-short (m .cost), decimal-short (m .depth)))
+passed-line-short m = simp length-append (omega (arith, spaced-short (m .gates), spaced-short (m .cost), decimal-short (m .depth)))
+
+pub times-short : (m : Measures) → length (times m) ≤ 29
+unfolding times
+times-short m =
+    simp length-append
+    (omega (
+      arith,
+      spaced-short (m .ready0),
+      spaced-short (m .ready1),
+      spaced-short (m .ready2),
+      spaced-short (m .ready3),
+      decimal-short (m .ready4),
+    ))
+
+pub ready-line-short : (m : Measures) → length (readyLine m) ≤ 36
+unfolding readyLine
+ready-line-short m = simp length-append (omega (arith, times-short m))
+
+pub passed-short : (m : Measures) → length (passedText m) ≤ 128
+unfolding passedText
+passed-short m = simp length-append (omega (arith, passed-line-short m, ready-line-short m))

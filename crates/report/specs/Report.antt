@@ -11,10 +11,21 @@ use Rattle.report.specs.Meanings.{meaning}
 unfoldable pub passedLine : Measures → List ℕ
 passedLine m = bytes "passed " ++ (spaced (m .gates) ++ (spaced (m .cost) ++ (decimal (m .depth) ++ lineFeed)))
 
+-- when each of five wires comes free: 0 for one that the circuit lacks
+unfoldable pub times : Measures → List ℕ
+times m = spaced (m .ready0) ++ (spaced (m .ready1) ++ (spaced (m .ready2) ++ (spaced (m .ready3) ++ decimal (m .ready4))))
+
+-- `ready TIME TIME TIME TIME TIME`
+unfoldable pub readyLine : Measures → List ℕ
+readyLine m = bytes "ready " ++ (times m ++ lineFeed)
+
+unfoldable pub passedText : Measures → List ℕ
+passedText m = passedLine m ++ readyLine m
+
 -- `refused NUMBER`, and on a second line what the number means
 unfoldable pub refusedText : ℕ → List ℕ
 refusedText code = refusedLine code ++ (meaning code ++ lineFeed)
 
 unfoldable pub reportOf : Answer Measures → List ℕ
 reportOf (refused code) = refusedText code
-reportOf (answered m) = passedLine m
+reportOf (answered m) = passedText m

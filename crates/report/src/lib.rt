@@ -9,7 +9,7 @@ ghost use Rattle.verify.specs.Calls.{measuredAnswer};
 ghost use Rattle.text.specs.Text.{inFront};
 ghost use Rattle.text.specs.Writing.{Wrote};
 ghost use Rattle.report.specs.Meanings.{otherMeaning, verifyMeaning, circuitMeaning, meaning};
-ghost use Rattle.report.specs.Report.{passedLine, refusedText, reportOf};
+ghost use Rattle.report.specs.Report.{passedLine, times, readyLine, passedText, refusedText, reportOf};
 
 fn put_other_meaning(out: &mut [u8], i: usize, code: u8) -> usize
     requires { ⌜ i + 64 ≤ length (now out) ⌝ }
@@ -70,17 +70,47 @@ fn put_meaning(out: &mut [u8], i: usize, code: u8) -> usize
     }
 }
 
-// Writes `passed` and the measures at the start of the buffer, and answers the line's length.
-pub fn passed_line(m: Measures, out: &mut [u8]) -> usize
-    requires { ⌜ 128 ≤ length (now out) ⌝ }
-    ensures { λ r. ⌜ r ≡ length (passedLine m) ⌝ }
-    ensures { λ _. ⌜ now (out .exit) ≡ inFront (passedLine m) (now (out .entry)) ⌝ }
+// Writes `passed`, the gates, the cost and the depth at the start of the buffer.
+fn put_passed(out: &mut [u8], m: Measures) -> usize
+    requires { ⌜ 25 ≤ length (now out) ⌝ }
+    ensures { λ r. ⌜ Wrote (now (out .entry)) 0 (passedLine m) (now (out .exit)) r ⌝ }
 {
     let a = put_text(out, 0, b"passed ");
     let b = text::put_spaced(out, a, m.gates as usize);
     let c = text::put_spaced(out, b, m.cost as usize);
     let d = text::put_decimal(out, c, m.depth as usize);
     text::put(out, d, b'\n')
+}
+
+fn put_times(out: &mut [u8], i: usize, m: Measures) -> usize
+    requires { ⌜ i + 29 ≤ length (now out) ⌝ }
+    ensures { λ r. ⌜ Wrote (now (out .entry)) i (times m) (now (out .exit)) r ⌝ }
+{
+    let a = text::put_spaced(out, i, m.ready0 as usize);
+    let b = text::put_spaced(out, a, m.ready1 as usize);
+    let c = text::put_spaced(out, b, m.ready2 as usize);
+    let d = text::put_spaced(out, c, m.ready3 as usize);
+    text::put_decimal(out, d, m.ready4 as usize)
+}
+
+// Writes `ready` and when each wire comes free.
+fn put_ready(out: &mut [u8], i: usize, m: Measures) -> usize
+    requires { ⌜ i + 36 ≤ length (now out) ⌝ }
+    ensures { λ r. ⌜ Wrote (now (out .entry)) i (readyLine m) (now (out .exit)) r ⌝ }
+{
+    let a = put_text(out, i, b"ready ");
+    let b = put_times(out, a, m);
+    text::put(out, b, b'\n')
+}
+
+// Writes the two lines of a pass at the start of the buffer, and answers their length.
+pub fn passed_text(m: Measures, out: &mut [u8]) -> usize
+    requires { ⌜ 128 ≤ length (now out) ⌝ }
+    ensures { λ r. ⌜ r ≡ length (passedText m) ⌝ }
+    ensures { λ _. ⌜ now (out .exit) ≡ inFront (passedText m) (now (out .entry)) ⌝ }
+{
+    let a = put_passed(out, m);
+    put_ready(out, a, m)
 }
 
 // Writes `refused`, the number and what it means at the start of the buffer, and answers the length of both lines.
@@ -103,6 +133,6 @@ pub fn report(answer: Measured, out: &mut [u8]) -> usize
 {
     match answer {
         Measured::Refused(code) => refused_text(code, out),
-        Measured::Within(m) => passed_line(m, out),
+        Measured::Within(m) => passed_text(m, out),
     }
 }

@@ -16,7 +16,7 @@ use Rattle.record.specs.Jobs.{jobCode}
 use Rattle.record.specs.Circuits.{circuitCode}
 use Rattle.record.specs.Answers.{checkOf}
 use Rattle.verify.specs.declared.Measures.{Measures}
-use Rattle.verify.specs.Calls.{forwardsOf, backwardsOf, measureOf, verifyOf}
+use Rattle.verify.specs.Calls.{forwardsOf, backwardsOf, readyOf, measureOf, verifyOf}
 use Rattle.parity.specs.Parity.{Parity, even, odd, neither, parityOf}
 use Rattle.choice.specs.Choices.{lexLess}
 use Rattle.search.specs.Outcomes.{Found, searchOf}
@@ -37,9 +37,9 @@ pub data Sample : Type 0 where
   circuitRefused : (circuit : List ℕ) (code : ℕ) → Sample
   runs : (circuit : List ℕ) (value forth back : ℕ) → Sample
   runRefused : (circuit : List ℕ) (value code : ℕ) → Sample
-  measures : (job circuit : List ℕ) (gates cost depth : ℕ) → Sample
+  measures : (job circuit : List ℕ) (gates cost depth : ℕ) (ready : List ℕ) → Sample
   measureRefused : (job circuit : List ℕ) (code : ℕ) → Sample
-  passes : (job circuit : List ℕ) (gates cost depth : ℕ) → Sample
+  passes : (job circuit : List ℕ) (gates cost depth : ℕ) (ready : List ℕ) → Sample
   verifyRefused : (job circuit : List ℕ) (code : ℕ) → Sample
   finds : (job circuit : List ℕ) → Sample
   searchRefused : (job : List ℕ) (room code : ℕ) → Sample
@@ -96,13 +96,16 @@ abbrev givesValue : ℕ → Answer ℕ → Bool
 givesValue v (refused n) = false
 givesValue v (answered w) = eqb w v
 
-abbrev givesMeasures : ℕ → ℕ → ℕ → Answer Measures → Bool
-givesMeasures g c d (refused n) = false
-givesMeasures g c d (answered m) = both (eqb (m .gates) g) (both (eqb (m .cost) c) (eqb (m .depth) d))
+abbrev same : List ℕ → List ℕ → Bool
+same xs ys = not (either (lexLess xs ys) (lexLess ys xs))
+
+abbrev givesMeasures : (gates cost depth : ℕ) → List ℕ → Answer Measures → Bool
+givesMeasures g c d ts (refused n) = false
+givesMeasures g c d ts (answered m) = both (eqb (m .gates) g) (both (eqb (m .cost) c) (both (eqb (m .depth) d) (same (readyOf m) ts)))
 
 abbrev givesRecord : List ℕ → Answer Found → Bool
 givesRecord bytes (refused n) = false
-givesRecord bytes (answered f) = not (either (lexLess bytes (f .bytes)) (lexLess (f .bytes) bytes))
+givesRecord bytes (answered f) = same (f .bytes) bytes
 
 abbrev parityNumber : Parity → ℕ
 parityNumber even = 0
@@ -129,9 +132,9 @@ holds (circuitSound c) = isAnswered (checkOf (circuitCode c))
 holds (circuitRefused c n) = refusedBy n (checkOf (circuitCode c))
 holds (runs c v f b) = both (givesValue f (forwardsOf c v)) (givesValue b (backwardsOf c v))
 holds (runRefused c v n) = both (refusedBy n (forwardsOf c v)) (refusedBy n (backwardsOf c v))
-holds (measures job c g k d) = givesMeasures g k d (measureOf job c)
+holds (measures job c g k d ts) = givesMeasures g k d ts (measureOf job c)
 holds (measureRefused job c n) = refusedBy n (measureOf job c)
-holds (passes job c g k d) = givesMeasures g k d (verifyOf job c)
+holds (passes job c g k d ts) = givesMeasures g k d ts (verifyOf job c)
 holds (verifyRefused job c n) = refusedBy n (verifyOf job c)
 holds (finds job c) = givesRecord c (searchOf job 15)
 holds (searchRefused job room n) = refusedBy n (searchOf job room)
@@ -175,16 +178,18 @@ samples =
     ∷ circuitRefused (0x60 ∷ 0x18 ∷ 1 ∷ 34 ∷ []) 21  -- 22 again
     ∷ runs (0x60 ∷ 0x18 ∷ 2 ∷ 0 ∷ 33 ∷ []) 0 3 1  -- 00 21, there and back
     ∷ runRefused empty 8 20
-    ∷ measures (anything 0 0 0) oneNot 1 1 1
+    ∷ measures (anything 0 0 0) oneNot 1 1 1 (1 ∷ 0 ∷ 0 ∷ 0 ∷ 0 ∷ [])
+    ∷ measures (anything 0 0 0) (0x60 ∷ 0x18 ∷ 2 ∷ 65 ∷ 33 ∷ []) 2 2 2 (2 ∷ 2 ∷ 1 ∷ 0 ∷ 0 ∷ [])  -- 41 21
+    ∷ measures (anything 0 0 0) (0x60 ∷ 0x18 ∷ 2 ∷ 33 ∷ 67 ∷ []) 2 6 8 (8 ∷ 8 ∷ 8 ∷ 0 ∷ 0 ∷ [])  -- 21 43
     ∷ measureRefused (anything 0 0 0) (0x80 ∷ 0x1B ∷ 0 ∷ []) 12  -- four data wires for three
     ∷ verifyRefused (anything 0 0 0) (0x68 ∷ 0x18 ∷ 0 ∷ []) 12  -- an ancilla for none
     ∷ verifyRefused (anything 0 0 0) (0x60 ∷ 0x48 ∷ 0 ∷ []) 15  -- a layout that is not the plain one
     ∷ verifyRefused (short 0x60 0 0 0 1 (two 0x11 0)) empty 16  -- row 0 wants bit 0 to be 1
-    ∷ passes (short 0x60 0 0 0 1 (two 0x10 0x11)) empty 0 0 0
+    ∷ passes (short 0x60 0 0 0 1 (two 0x10 0x11)) empty 0 0 0 (0 ∷ 0 ∷ 0 ∷ 0 ∷ 0 ∷ [])
     ∷ verifyRefused (anything 0 1 1) oneNot 17
     ∷ verifyRefused (anything 1 0 1) oneNot 18
     ∷ verifyRefused (anything 1 1 0) oneNot 19
-    ∷ passes (anything 1 1 1) oneNot 1 1 1  -- each limit is itself allowed
+    ∷ passes (anything 1 1 1) oneNot 1 1 1 (1 ∷ 0 ∷ 0 ∷ 0 ∷ 0 ∷ [])  -- each limit is itself allowed
     ∷ searchRefused (anything 0 0 0) 14 13  -- an answer buffer of 14 bytes
     ∷ searchRefused (short 0x60 0 0 0 1 (two 0x11 0)) 15 14  -- row 0 wants bit 0 to be 1, and no gate is allowed
     ∷ finds (short 0x60 0 0 0 1 (two 0x10 0x11)) empty

@@ -10,8 +10,9 @@ use lib.ListN.{length, take, drop}
 use Rattle.logic.specs.Rules.{both}
 use Rattle.logic.specs.Answers.{Answer, refused, answered}
 use Rattle.logic.proofs.Chain.{both-parts}
-use Rattle.record.specs.Jobs.{dataWires, ancillas, jobCode}
+use Rattle.record.specs.Jobs.{dataWires, ancillas, priceOf, durationOf, jobCode}
 use Rattle.record.specs.Circuits.{circuitBytes}
+use Rattle.verify.specs.Calls.{measuresOf}
 use Rattle.parity.specs.Parity.{isOdd, tableParity}
 use Rattle.parity.proofs.Odd.{odd-is}
 use Rattle.choice.specs.declared.Best.{Best}
@@ -39,7 +40,7 @@ module _ (job : List ℕ) (room : ℕ) where
         → searchOf job room
         ≡ answered (record {
           bytes = circuitBytes n m (b .layout) (take (b .len) (b .path));
-          measures = record { gates = b .len; cost = b .cost; depth = b .depth };
+          measures = measuresOf (priceOf job) (durationOf job) (take (b .len) (b .path));
         })
     unfolding view recordOf choice
     reached n m e k h = past ∙ rw (h, e, k)

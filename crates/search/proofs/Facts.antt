@@ -69,11 +69,6 @@ module _ (job : List ℕ) (sound : jobCode job ≡ 0) where
     }),
   )
 
-  measures-are : (c : Choice) → choiceOf (problemOf job) (c .bytes) (c .layout) ≡ c
-      → foundOf job c .measures ≡ measuresOf (priceOf job) (durationOf job) (c .bytes)
-  unfolding problemOf choiceOf measuresOf
-  measures-are c e = sym (ap (λ (a : Choice). foundOf job a .measures) e)
-
   module _ (room : ℕ) (wide : 15 ≤ room) where
     -- past the checks the answer is that of the first good choice
     past : searchOf job room ≡ outcomeOf job (firstGood (problemOf job))
@@ -93,7 +88,7 @@ module _ (job : List ℕ) (sound : jobCode job ≡ 0) where
         by-first (some c) e k =
             let w = Demand.found-is (problemOf job) c e in
             let s : f ≡ foundOf job c = cc in
-            (c .bytes, (c .layout, (w .0, (ap (λ (g : Found). g .bytes) s, ap (λ (g : Found). g .measures) s ∙ measures-are c (w .1)))))
+            (c .bytes, (c .layout, (w .0, (ap (λ (g : Found). g .bytes) s, ap (λ (g : Found). g .measures) s))))
 
     -- 2. "None" exactly when no choice solves the job.
     pub none-is : (searchOf job room ≡ refused 14) ↔ ((l : List ℕ) (p : ℕ) → Solves (problemOf job) l p → ⊥)

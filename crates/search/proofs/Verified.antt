@@ -23,8 +23,9 @@ use Rattle.record.specs.Circuits.{layoutOf, countOf, gates, circuitLengthOk, sh
 use Rattle.record.proofs.Written as Written
 use Rattle.record.proofs.Kept.{sound-job, sound-circuit, wires-within}
 use Rattle.verify.specs.Calls.{measuresOf, verifyOf}
-use Rattle.verify.specs.Demand.{Passes}
+use Rattle.verify.specs.Demand.{Passes, Timed}
 use Rattle.verify.proofs.Pass.{pass}
+use Rattle.verify.proofs.Ready.{verified-ready}
 use Rattle.problem.specs.Demand.{Solves}
 use Rattle.search.specs.Outcomes.{problemOf, recordOf, Found, searchOf}
 use Rattle.search.proofs.Facts.{admitted-is, found-sound, found-is, none-is}
@@ -136,3 +137,7 @@ found-passes job room f h =
 -- So it is a sound circuit with the job's n and m.
 pub found-circuit : (job : List ℕ) (room : ℕ) (f : Found) → searchOf job room ≡ answered f → Passes job (f .bytes)
 found-circuit job room f h = pass job (f .bytes) (f .measures) .0 (found-passes job room f h) .0
+
+-- The ready times returned are the circuit's: their greatest is its depth, and a wire that it lacks has 0.
+pub found-ready : (job : List ℕ) (room : ℕ) (f : Found) → searchOf job room ≡ answered f → Timed (wires (f .bytes)) (f .measures)
+found-ready job room f h = verified-ready job (f .bytes) (f .measures) (found-passes job room f h)

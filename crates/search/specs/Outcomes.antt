@@ -12,6 +12,7 @@ use Rattle.table.specs.Rows.{realizes}
 use Rattle.record.specs.Jobs.{dataWires, ancillas, wires, freeLayout, gateLimit, costLimit, depthLimit, priceOf, durationOf, rows, jobCode}
 use Rattle.record.specs.Circuits.{circuitBytes}
 use Rattle.verify.specs.declared.Measures.{Measures}
+use Rattle.verify.specs.Calls.{measuresOf}
 use Rattle.choice.specs.Choices.{Choice}
 use Rattle.problem.specs.Problems.{Problem, firstGood}
 use Rattle.search.specs.declared.Searched.{Searched}
@@ -39,7 +40,7 @@ pub record Found : Type 0 where
   pub measures : Measures
 
 abbrev pub foundOf : List ℕ → Choice → Found
-foundOf job c = record { bytes = recordOf job (c .layout) (c .bytes); measures = record { gates = c .gates; cost = c .cost; depth = c .depth } }
+foundOf job c = record { bytes = recordOf job (c .layout) (c .bytes); measures = measuresOf (priceOf job) (durationOf job) (c .bytes) }
 
 -- "Does a circuit within the limits meet the table? If not, 14."
 abbrev pub outcomeOf : List ℕ → Option Choice → Answer Found

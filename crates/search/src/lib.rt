@@ -5,9 +5,10 @@ use solver::Task;
 use verify::Measures;
 ghost use mathlib.Core.Path.{_≡_};
 ghost use Prim.Native.Nat.{ℕ, _≤_, _<_};
-ghost use lib.ListN.{length, getD};
+ghost use lib.ListN.{length, getD, take};
 ghost use Rattle.circuit.specs.Measure.{weightOf};
-ghost use Rattle.record.specs.Jobs.{jobCode};
+ghost use Rattle.record.specs.Jobs.{priceOf, durationOf, jobCode};
+ghost use Rattle.verify.specs.Calls.{measuresOf};
 ghost use Rattle.choice.specs.Inner.{view};
 ghost use Rattle.problem.specs.Problems.{firstGood};
 ghost use Rattle.search.specs.Outcomes.{problemOf, searchCode, searchOf, reported, written, searchedAnswer, sizeIn};
@@ -78,6 +79,14 @@ fn first_good(job: &[u8]) -> Best
     )
 }
 
+// The measures of the first gates of a path, as `verify` takes them.
+fn measures_of(job: &[u8], path: [u8; 12], len: usize) -> Measures
+    requires { ⌜ len ≤ 12 ⌝ }
+    ensures { λ r. ⌜ r ≡ measuresOf (priceOf (now (job .entry))) (durationOf (now (job .entry))) (take len path) ⌝ }
+{
+    verify::measure_list(&path[..len], record::prices(job), record::durations(job))
+}
+
 fn search_code(job: &[u8], room: usize) -> u8
     ensures { λ r. ⌜ r ≡ searchCode (now (job .entry)) room ⌝ }
 {
@@ -99,13 +108,10 @@ pub fn search(job: &[u8], answer: &mut [u8]) -> Searched
         return Searched::Refused(14);
     }
     let path = best.path;
+    let len = best.len;
+    let measures = measures_of(job, path, len);
     let n = record::data_wires(job);
     let m = record::ancillas(job);
-    let size = record::write_record(n, m, best.layout, path, best.len, answer);
-    let measures = Measures {
-        gates: best.len as u8,
-        cost: best.cost,
-        depth: best.depth,
-    };
+    let size = record::write_record(n, m, best.layout, path, len, answer);
     Searched::Found(size, measures)
 }

@@ -4,7 +4,9 @@ use mathlib.Core.List.{[], _∷_, map}
 use Rattle.logic.specs.Words.{bytes}
 use Rattle.text.specs.Text.{place, decimal, spaced, hexDigit, hexOf, refusedLine, foundLine}
 
-pub found-sample : foundLine (record { gates = 3; cost = 3; depth = 3 }) (0x60 ∷ 0x18 ∷ 0x03 ∷ 0x02 ∷ 0x21 ∷ 0x02 ∷ [])
+-- the line has no ready times
+pub found-sample : foundLine (record { gates = 3; cost = 3; depth = 3; ready0 = 3; ready1 = 3; ready2 = 0; ready3 = 0; ready4 = 0 })
+    (0x60 ∷ 0x18 ∷ 0x03 ∷ 0x02 ∷ 0x21 ∷ 0x02 ∷ [])
     ≡ bytes "found 3 3 3 601803022102\n"
 unfolding foundLine spaced decimal place hexOf hexDigit
 found-sample = refl

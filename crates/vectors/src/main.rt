@@ -288,6 +288,17 @@ fn say_measures(m: Measures) {
     io::print_decimal(STDOUT_FILENO, m.cost as u64);
     say(b" ");
     io::print_decimal(STDOUT_FILENO, m.depth as u64);
+    say(b" ready");
+    say_time(m.ready0);
+    say_time(m.ready1);
+    say_time(m.ready2);
+    say_time(m.ready3);
+    say_time(m.ready4);
+}
+
+fn say_time(time: u16) {
+    say(b" ");
+    io::print_decimal(STDOUT_FILENO, time as u64);
 }
 
 fn say_parity(answer: TableParity) {

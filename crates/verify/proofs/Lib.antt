@@ -2,3 +2,4 @@ pub mod Codes
 pub mod Pass
 pub mod Bounds
 pub mod Eleven
+pub mod Ready

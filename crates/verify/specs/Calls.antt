@@ -1,13 +1,13 @@
 -- What running, measuring and verifying (document 01: judging) answer.
 use mathlib.Core.Bool.{Bool, true, false}
-use mathlib.Core.List.{List}
+use mathlib.Core.List.{List, [], _∷_}
 use Prim.Native.Nat.{ℕ, _^_}
 use lib.Dec.{ltb, leb, eqb}
-use lib.ListN.{length}
+use lib.ListN.{length, getD}
 use Rattle.logic.specs.Rules.{both, pick, rule, andThen}
 use Rattle.logic.specs.Answers.{Answer, refused, answered, answerOf}
 use Rattle.circuit.specs.Run.{forwards, backwards}
-use Rattle.circuit.specs.Measure.{cost, depth}
+use Rattle.circuit.specs.Measure.{cost, readyTimes, greatest}
 use Rattle.table.specs.Layouts.{allowed}
 use Rattle.table.specs.Rows.{agrees}
 use Rattle.record.specs.Jobs.{dataWires, ancillas, wires, freeLayout, gateLimit, costLimit, depthLimit, priceOf, durationOf, rows, jobCode}
@@ -41,9 +41,26 @@ forwardsOf c v = runOf true c v
 abbrev pub backwardsOf : List ℕ → ℕ → Answer ℕ
 backwardsOf c v = runOf false c v
 
--- gates, cost and depth of a list
+-- gates, cost, and "the free time of each of five wires"; "depth is their greatest"
+abbrev pub measuresWith : ℕ → ℕ → List ℕ → Measures
+measuresWith gs c ts = record {
+  gates = gs;
+  cost = c;
+  depth = greatest ts;
+  ready0 = getD ts 0 0;
+  ready1 = getD ts 1 0;
+  ready2 = getD ts 2 0;
+  ready3 = getD ts 3 0;
+  ready4 = getD ts 4 0;
+}
+
+-- those of a list
 unfoldable pub measuresOf : (ℕ → ℕ) → (ℕ → ℕ) → List ℕ → Measures
-measuresOf price duration gs = record { gates = length gs; cost = cost price gs; depth = depth duration gs }
+measuresOf price duration gs = measuresWith (length gs) (cost price gs) (readyTimes duration gs)
+
+-- the ready times of five wires, as a list
+abbrev pub readyOf : Measures → List ℕ
+readyOf m = m .ready0 ∷ m .ready1 ∷ m .ready2 ∷ m .ready3 ∷ m .ready4 ∷ []
 
 -- those of a circuit, at a job's prices and durations
 abbrev pub measuresFor : List ℕ → List ℕ → Measures
@@ -81,6 +98,6 @@ verifyRest job c =
 unfoldable pub verifyCode : List ℕ → List ℕ → ℕ
 verifyCode job c = andThen (measureCode job c) (verifyRest job c)
 
--- "A pass returns the three measures."
+-- "A pass returns the three measures", and with them the ready times
 unfoldable pub verifyOf : List ℕ → List ℕ → Answer Measures
 verifyOf job c = answerOf (verifyCode job c) (measuresFor job c)

@@ -1,14 +1,17 @@
--- Demand 2's words on the judge, field by field: what a circuit that passes for a job has, and what a pair that has it all passes by.
+-- Demand 2's words on the judge, field by field: what a circuit that passes for a job has, and what a pair that has it all passes by. And
+-- document 02's words on ready times.
 use mathlib.Core.Path.{_≡_}
 use mathlib.Core.Bool.{true}
 use mathlib.Core.List.{List}
 use Prim.Native.Nat.{ℕ, _≤_}
-use lib.ListN.{length}
-use Rattle.circuit.specs.Measure.{cost, depth}
+use lib.ListN.{length, getD}
+use Rattle.circuit.specs.Measure.{cost, depth, greatest}
 use Rattle.table.specs.Layouts.{allowed}
 use Rattle.table.specs.Rows.{realizes}
 use Rattle.record.specs.Jobs.{dataWires, ancillas, freeLayout, gateLimit, costLimit, depthLimit, priceOf, durationOf, rows, jobCode}
 use Rattle.record.specs.Circuits.{layoutOf, gates, circuitCode}
+use Rattle.verify.specs.declared.Measures.{Measures}
+use Rattle.verify.specs.Calls.{readyOf}
 
 pub record Passes (job c : List ℕ) : Type 0 where
   -- "after the job's checks and then the circuit's"
@@ -25,3 +28,10 @@ pub record Passes (job c : List ℕ) : Type 0 where
   pub gates-within : length (gates c) ≤ gateLimit job
   pub cost-within : cost (priceOf job) (gates c) ≤ costLimit job
   pub depth-within : depth (durationOf job) (gates c) ≤ depthLimit job
+
+-- the measures of a circuit of w wires
+pub record Timed (w : ℕ) (m : Measures) : Type 0 where
+  -- "depth is their greatest"
+  pub greatest-ready : m .depth ≡ greatest (readyOf m)
+  -- "0 for wires a circuit lacks"
+  pub lacking : (i : ℕ) → w ≤ i → getD (readyOf m) i 0 ≡ 0

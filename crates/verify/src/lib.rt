@@ -9,14 +9,19 @@ ghost use Rattle.circuit.specs.Measure.{weightOf};
 ghost use Rattle.record.specs.Jobs.{jobCode};
 ghost use Rattle.record.specs.Circuits.{circuitCode};
 ghost use Rattle.verify.specs.Calls.{ranAnswer, runCode, runOf, forwardsOf, backwardsOf};
-ghost use Rattle.verify.specs.Calls.{measuredAnswer, measuresOf, measuresFor, sameWires, measureCode, measureOf};
+ghost use Rattle.verify.specs.Calls.{measuredAnswer, measuresWith, measuresOf, measuresFor, sameWires, measureCode, measureOf};
 ghost use Rattle.verify.specs.Calls.{limitRules, limitsCode, verifyRest, verifyOf};
 
-// Gates, cost and depth.
+// Gates, cost and depth, and the ready time of each of five wires: 0 for a wire that the circuit lacks.
 pub struct Measures {
     pub gates: u8,
     pub cost: u16,
     pub depth: u16,
+    pub ready0: u16,
+    pub ready1: u16,
+    pub ready2: u16,
+    pub ready3: u16,
+    pub ready4: u16,
 }
 
 // What running answers: the number of the first rule broken, or the value of the wires at the end.
@@ -74,16 +79,31 @@ pub fn run_backwards(c: &[u8], value: u8) -> Ran
     run(false, c, value)
 }
 
+// The measures of so many gates, of this cost, with these ready times.
+fn measures_with(gates: u8, cost: u16, times: [u16; 5]) -> Measures
+    ensures { λ r. ⌜ r ≡ measuresWith gates cost times ⌝ }
+{
+    Measures {
+        gates: gates,
+        cost: cost,
+        depth: circuit::latest(times),
+        ready0: times[0],
+        ready1: times[1],
+        ready2: times[2],
+        ready3: times[3],
+        ready4: times[4],
+    }
+}
+
 // The measures of a gate list.
-fn measure_list(list: &[u8], prices: Weights, durations: Weights) -> Measures
+pub fn measure_list(list: &[u8], prices: Weights, durations: Weights) -> Measures
     requires { ⌜ length (now list) ≤ 255 ⌝ }
     ensures { λ r. ⌜ r ≡ measuresOf (weightOf prices) (weightOf durations) (now (list .entry)) ⌝ }
 {
-    Measures {
-        gates: list.len() as u8,
-        cost: circuit::cost(list, prices),
-        depth: circuit::latest(circuit::ready_times(list, durations)),
-    }
+    let count = list.len() as u8;
+    let cost = circuit::cost(list, prices);
+    let times = circuit::ready_times(list, durations);
+    measures_with(count, cost, times)
 }
 
 fn same_wires(job: &[u8], c: &[u8]) -> bool

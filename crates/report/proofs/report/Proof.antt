@@ -18,7 +18,7 @@ returns-2 c =
     let r = c .before .before in
     let z = r .before .before .before in
     rw (z .answer2 .given .1)
-    (r .passed-line .ensures .0, (rw (r .passed-line .ensures .0) (passed-short (z .answer2 .given .0 .0)), r .passed-line .ensures .1))
+    (r .passed-text .ensures .0, (rw (r .passed-text .ensures .0) (passed-short (z .answer2 .given .0 .0)), r .passed-text .ensures .1))
 
 pub report-spec : {M : Type 1} → statement M
 report-spec =

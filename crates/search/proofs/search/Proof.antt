@@ -5,9 +5,10 @@ use native.Mathlib.Omega.{arith}
 use borrow.Author.Tests.{not-true, not-false}
 use borrow.Author.Needs.{needs}
 use lib.ListN.{length}
-use Rattle.logic.specs.Answers.{Answer}
+use Rattle.logic.specs.Answers.{Answer, answered}
 use Rattle.record.specs.Jobs.{ancillas}
 use Rattle.record.proofs.Written.{record-size}
+use Rattle.verify.specs.declared.Measures.{Measures}
 use Rattle.search.specs.Outcomes.{Found, searchCode, reported, written}
 use Rattle.search.proofs.Facts.{code-parts}
 use Rattle.search.proofs.Answer.{by-code, missing, reached, told, wrote}
@@ -43,7 +44,7 @@ unfolding ancillas
 write-record-requires c κs =
     let a = c .before in
     let e = a .ancillas .ensures in
-    let g = a .before .before .before .before .before in
+    let g = a .before .before .before .before .before .before in
     let s = g .before .before .before .before .before in
     ((omega arith, omega arith), (g .first-good .ensures .1, code-parts (s .args .job .now) (length (s .args .answer .now)) (kept (g .before)) .1))
 
@@ -53,23 +54,27 @@ long c = search needs
 
 returns-3 : tie.Need-returns-3
 returns-3 c =
-    let w = c .before .before .before in
+    let w = c .before .before in
     let a = w .before .before in
     let d = a .before in
-    let g = d .before .before .before .before in
+    let m = d .before in
+    let g = m .before .before .before .before in
     let s = g .before .before .before .before .before in
     let b = g .first-good .result in
     let l = long g in
     let n = g .first-good .ensures .1 in
     let e
     = reached (s .args .job .now) (length (s .args .answer .now)) (kept (g .before)) b (g .first-good .ensures .0) (d .data-wires .result)
-    (a .ancillas .result) (d .data-wires .ensures .0) (a .ancillas .ensures) (not-false _ (d .before .before .if2 .left)) in
+    (a .ancillas .result) (d .data-wires .ensures .0) (a .ancillas .ensures) (not-false _ (m .before .before .if2 .left)) in
     let v = w .write-record .ensures .0 in
     let z = record-size (d .data-wires .result) (a .ancillas .result) (b .layout) (b .path) (b .len) (omega arith) in
-    (told e (w .write-record .result) (v ∙ z), (omega arith, wrote e (3 + b .len) z (s .args .answer .now) _ (w .write-record .ensures .1)))
+    let k = w .write-record .result in (
+      ap (λ (x : Measures). answered (record { size = k; measures = x })) (m .measures-of .ensures) ∙ told e k (v ∙ z),
+      (omega arith, wrote e (3 + b .len) z (s .args .answer .now) _ (w .write-record .ensures .1)),
+    )
 
 pub search-spec : {M : Type 1} → statement M
 search-spec =
     tie.close
     (tie.spec (λ c κs. search needs) returns first-good-requires returns-2 (λ c κs. search needs) (λ c κs. search needs)
-    write-record-requires (λ c. search needs) (λ c. search needs) returns-3)
+    (λ c κs. search needs) write-record-requires (λ c. search needs) returns-3)

@@ -1,20 +1,16 @@
-use mathlib.Core.Path.{_∙_, ap}
+use mathlib.Core.Path.{_∙_, ap₂}
 use borrow.Author.Needs.{needs}
 use lib.ListN.{length}
-use Rattle.circuit.specs.Measure.{greatest}
-use Rattle.verify.specs.Calls.{measuresOf}
+use Rattle.verify.specs.Calls.{measuresWith, measuresOf}
 use Rattle.verify.proofs.measure_list.Statement.{statement}
 use Rattle.verify.proofs.measure_list.Tie as tie
 
 returns : tie.Need-returns
 unfolding measuresOf
 returns c =
-    let s = c .before .before in
-    λ i. record {
-      gates = length (s .before .before .args .list .now);
-      cost = s .cost .ensures i;
-      depth = (c .latest .ensures ∙ ap greatest (c .before .ready-times .ensures)) i;
-    }
+    let r = c .before in
+    c .measures-with .ensures
+    ∙ ap₂ (measuresWith (length (r .before .before .before .args .list .now))) (r .before .cost .ensures) (r .ready-times .ensures)
 
 pub measure-list-spec : {M : Type 1} → statement M
 measure-list-spec =

@@ -1,0 +1,57 @@
+-- The ready times in an answer: they are those of the circuit, their greatest is the depth, and a wire that the circuit lacks has 0.
+use mathlib.Core.Path.{_≡_, refl, sym, ap, _∙_}
+use mathlib.Core.List.{List, [], _∷_}
+use Prim.Native.Nat.{ℕ, _≤_}
+use lib.ListN.{length, getD}
+use Rattle.logic.specs.Lists.{along}
+use Rattle.logic.specs.Answers.{answered}
+use Rattle.logic.proofs.Answers.{answered-is}
+use Rattle.logic.proofs.Members.{spelled}
+use Rattle.gate.specs.Gates.{gateOf}
+use Rattle.circuit.specs.Measure.{holdByte, idle, readyTimes, greatest}
+use Rattle.circuit.proofs.Times.{length-hold}
+use Rattle.circuit.proofs.Gatebound.{quiet-ready}
+use Rattle.record.specs.Jobs.{wires, priceOf, durationOf}
+use Rattle.record.specs.Circuits.{gates, circuitCode}
+use Rattle.record.proofs.Kept.{sound-circuit, circuit-wires-within}
+use Rattle.verify.specs.declared.Measures.{Measures}
+use Rattle.verify.specs.Calls.{measuresOf, measuresFor, readyOf, measureCode, measureOf, verifyCode, verifyOf}
+use Rattle.verify.specs.Demand.{Timed}
+use Rattle.verify.proofs.Codes.{measure-parts}
+use Rattle.verify.proofs.Pass.{code-passes}
+
+module _ (price duration : ℕ → ℕ) where
+  five-times : (gs ts : List ℕ) → length ts ≡ 5 → length (along (holdByte duration) gs ts) ≡ 5
+  unfolding along
+  five-times [] ts h = h
+  five-times (b ∷ gs) ts h = five-times gs (holdByte duration b ts) (length-hold (gateOf b) (duration b) ts ∙ h)
+
+  -- the ready times returned are those of the list
+  pub ready-is : (gs : List ℕ) → readyOf (measuresOf price duration gs) ≡ readyTimes duration gs
+  unfolding measuresOf
+  ready-is gs = spelled (readyTimes duration gs) 5 (five-times gs idle refl)
+
+  pub depth-is : (gs : List ℕ) → measuresOf price duration gs .depth ≡ greatest (readyOf (measuresOf price duration gs))
+  unfolding measuresOf
+  depth-is gs = ap greatest (sym (ready-is gs))
+
+module _ (job c : List ℕ) where
+  timed : circuitCode c ≡ 0 → Timed (wires c) (measuresFor job c)
+  timed sound = record {
+    greatest-ready = depth-is (priceOf job) (durationOf job) (gates c);
+    lacking = λ i h.
+        ap (λ (ts : List ℕ). getD ts i 0) (ready-is (priceOf job) (durationOf job) (gates c))
+        ∙ quiet-ready (durationOf job) (wires c) (circuit-wires-within c sound .1) (gates c) (sound-circuit c sound .kept) i h;
+  }
+
+  pub measured-ready : (m : Measures) → measureOf job c ≡ answered m → Timed (wires c) m
+  unfolding measureOf
+  measured-ready m h =
+      let a = answered-is (measureCode job c) (measuresFor job c) m h in
+      rw (a .1) (timed (measure-parts job c (a .0) .1 .0))
+
+  pub verified-ready : (m : Measures) → verifyOf job c ≡ answered m → Timed (wires c) m
+  unfolding verifyOf
+  verified-ready m h =
+      let a = answered-is (verifyCode job c) (measuresFor job c) m h in
+      rw (a .1) (timed (code-passes job c (a .0) .circuit-sound))

@@ -1,5 +1,5 @@
 //! The plainest exhaustive search of document 01: every list of lawful gates up to the
-//! gate limit, with every allowed layout, row by row. No bounds, no incumbent cuts, no
+//! gate limit, with every allowed layout, row by row, the ancilla back at 0 in each of them. No bounds, no incumbent cuts, no
 //! parity: the source of expected values. Reads a job from standard input and prints the
 //! line that `main` prints. Build: rustc -O brute.rs
 use std::io::Read;
@@ -102,13 +102,18 @@ fn depth(job: &Job, list: &[u8]) -> u32 {
     *ready.iter().max().unwrap()
 }
 
-fn realizes(job: &Job, ends: &[u8; 16], layout: u8) -> bool {
+fn agrees(job: &Job, ends: &[u8; 16], layout: u8) -> bool {
     job.rows.iter().enumerate().all(|(x, row)| {
         (0..job.n).all(|j| {
             let wanted = row >> (4 + j) & 1 == 1;
             !wanted || ends[x] >> wire(layout, j) & 1 == row >> j & 1
         })
     })
+}
+
+/// Whether the ancilla, wire n, ends at 0 for every row, unwanted ones too.
+fn clean(job: &Job, ends: &[u8; 16]) -> bool {
+    (0..job.rows.len()).all(|x| ends[x] >> job.n & 1 == 0)
 }
 
 /// Offers this list with every allowed layout, then every longer list within the limit.
@@ -118,7 +123,7 @@ fn extend(job: &Job, gates: &[u8], layouts: &[u8], list: &mut Vec<u8>, best: &mu
         ends[x] = run(list, x as u8);
     }
     for &layout in layouts {
-        if realizes(job, &ends, layout) {
+        if agrees(job, &ends, layout) && clean(job, &ends) {
             let cost = list.iter().map(|&gate| job.prices[kind(gate)]).sum();
             let key: Key = (cost, list.len(), depth(job, list), layout, list.clone());
             let within = key.0 <= job.cost_limit && key.2 <= job.depth_limit;

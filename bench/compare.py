@@ -56,10 +56,11 @@ def random_values(rng, n, m, length):
     if style < 0.13:
         return rng.sample(range(1 << n), 1 << n)
     gates = [random_gate(rng, n + m) for _ in range(length)]
-    if m == 1 and length >= 2 and style < 0.3:  # a product on the ancilla, then its use
+    if m == 1 and length >= 2 and style < 0.4:  # a product on the ancilla, its use, the product again
         a, b, target = rng.sample(range(n), 3)
         c = rng.choice([i for i in range(n) if i != target])
-        gates[:2] = [(n, 1 << a | 1 << b), (target, 1 << n | 1 << c)]
+        made = (n, 1 << a | 1 << b)
+        gates[:3] = [made, (target, 1 << n | 1 << c), made][:length]
     wires = list(range(n))
     if rng.random() < 0.5:
         rng.shuffle(wires)

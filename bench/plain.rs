@@ -15,8 +15,10 @@
 //!         and B5 (m = 0).
 //! An odd table on four wires is infeasible (parity) at every level, before any search.
 //! The rules:
-//!   B1  outputs that no wire matches (or wires that match no output) want a gate each;
-//!   B2  where all gates to come are wanted so, the next one gives a wire its output;
+//!   B1  outputs that no wire matches (or wires that match no output) want a gate each, and so
+//!       does an ancilla that is not at 0;
+//!   B2  where all gates to come are wanted so, the next one gives a wire its output, or the
+//!       ancilla its 0;
 //!   B3  affine span: the Toffolis still needed, and the most gates that the budget allows;
 //!   B4  a lossy set of the states within some gates of the target;
 //!   B5  the same of these states less one wire, and less two;
@@ -269,6 +271,12 @@ fn unmatched_outputs<const N: usize>(matched: &[u8; 4]) -> u32 {
     N as u32 - ones(matched[0] | matched[1] | matched[2] | matched[3])
 }
 
+/// 1 where the ancilla, wire N, is not at 0 in some row.
+#[inline(always)]
+fn dirty<const N: usize>(columns: &Columns) -> u32 {
+    (columns[N] != 0) as u32
+}
+
 #[inline(always)]
 fn unmatched_wires<const N: usize>(matched: &[u8; 4]) -> u32 {
     (0..N).map(|i| (matched[i] == 0) as u32).sum()
@@ -309,7 +317,7 @@ struct Base<'a> {
 impl Base<'_> {
     fn search<const N: usize, const FREE: bool>(&mut self, r: usize, len: usize, s: &State, cost: u32) {
         self.nodes += 1;
-        if unmatched_outputs::<N>(&s.matched) == 0 {
+        if unmatched_outputs::<N>(&s.matched) + dirty::<N>(&s.columns) == 0 {
             if let Some(layout) = self.job.layout_for(&s.matched) {
                 keep(&mut self.best, (cost, len, s.depth, layout, self.path[..len].to_vec()));
                 let best = self.best.as_ref().unwrap();
@@ -329,11 +337,11 @@ impl Base<'_> {
             let t = gate.target;
             let column = s.columns[t & 7] ^ product(&s.columns, gate);
             let matched = if t < N { job.matches::<N, FREE>(t, column) } else { 0 };
-            if N as u32 - ones(others[t] | matched) > r as u32 - 1 {
-                continue;
-            }
             let mut child = *s;
             child.columns[t & 7] = column;
+            if N as u32 - ones(others[t] | matched) + dirty::<N>(&child.columns) > r as u32 - 1 {
+                continue;
+            }
             if t < N {
                 child.matched[t] = matched;
             }
@@ -399,7 +407,8 @@ impl Full<'_> {
         if cost > self.best_cost || cost == self.best_cost && len > self.best_gates {
             return;
         }
-        let unmatched = unmatched_outputs::<N>(&s.matched) as usize;
+        let dirt = dirty::<N>(&s.columns);
+        let unmatched = (unmatched_outputs::<N>(&s.matched) + dirt) as usize;
         if unmatched == 0 {
             self.offer(s, len, cost);
         }
@@ -419,25 +428,28 @@ impl Full<'_> {
         for (t, gates) in job.gates_on.iter().enumerate() {
             // B1 and B2 before a gate on wire t: of the outputs that no other data wire matches,
             // one at most can end on t, and each of the rest takes a gate on another wire. If
-            // that leaves room for this gate only, it gives t an output of these for good.
+            // that leaves room for this gate only, it gives t an output of these for good. So it
+            // is with the ancilla, wire N, where it is not at 0 or t itself.
             let open = !others[t] & ((1 << N) - 1);
-            let needed = ones(open) as usize;
-            if needed > r_eff || needed == r_eff && t >= N {
+            let needed = (ones(open) + if t == N { 1 } else { dirt }) as usize;
+            if needed > r_eff {
                 continue;
             }
             let last = needed == r_eff;
-            let wrong = if t < N { (s.columns[t] ^ job.target[t]) & job.care[t] } else { 0 };
+            let care = if t < N { job.care[t] } else { job.rows };
+            let wrong = if t < N { (s.columns[t] ^ job.target[t]) & care } else { s.columns[t & 7] };
             for gate in gates {
                 let product = product(&s.columns, gate);
-                if !FREE && last && product & job.care[t & 3] != wrong {
-                    continue; // the same test as the one below, sooner
+                if last && (!FREE || t == N) && product & care != wrong {
+                    continue; // for a data wire the same test as the one below, sooner
                 }
                 let column = s.columns[t & 7] ^ product;
                 let matched = if t < N { job.matches::<N, FREE>(t, column) } else { 0 };
-                if last && open & matched == 0 {
+                if last && t < N && open & matched == 0 {
                     continue;
                 }
-                let unmatched = ones(open & !matched) as i32;
+                let left = if t == N { (column != 0) as u32 } else { dirt };
+                let unmatched = (ones(open & !matched) + left) as i32;
                 if unmatched > after[gate.kind & 3] {
                     continue;
                 }
@@ -620,10 +632,12 @@ impl Max<'_> {
     fn fixable<const N: usize, const FREE: bool>(&self, s: &State, gates: usize) -> bool {
         let job = self.job;
         let w = N + job.m;
-        let by_wires = unmatched_wires::<N>(&s.matched) as usize == gates;
-        let by_outputs = unmatched_outputs::<N>(&s.matched) as usize == gates;
+        let dirt = dirty::<N>(&s.columns);
+        let by_wires = (unmatched_wires::<N>(&s.matched) + dirt) as usize == gates;
+        let by_outputs = (unmatched_outputs::<N>(&s.matched) + dirt) as usize == gates;
         let any = s.matched[0] | s.matched[1] | s.matched[2] | s.matched[3];
-        for i in (0..N).filter(|&i| !by_wires || s.matched[i] == 0) {
+        let data = (0..N).filter(|&i| !by_wires || s.matched[i] == 0);
+        for i in data.chain((N..w).filter(|_| dirt == 1)) {
             let mut products = [s.columns[ONES]; 16];
             let mut count = 1;
             for a in (0..w).filter(|&a| a != i) {
@@ -633,6 +647,12 @@ impl Max<'_> {
                     products[count] = s.columns[a] & s.columns[b];
                     count += 1;
                 }
+            }
+            if i == N {
+                if products[..count].contains(&s.columns[N]) {
+                    return true;
+                }
+                continue;
             }
             for j in if FREE { 0..N } else { i..i + 1 } {
                 let wrong = (s.columns[i] ^ job.target[j]) & job.care[j];
@@ -654,7 +674,9 @@ impl Max<'_> {
 
     fn search<const N: usize, const FREE: bool>(&mut self, len: usize, s: &State, node: Node) {
         self.nodes += 1;
-        let wrong = unmatched_outputs::<N>(&s.matched).max(unmatched_wires::<N>(&s.matched)) as usize;
+        let dirt = dirty::<N>(&s.columns);
+        let wrong = unmatched_outputs::<N>(&s.matched).max(unmatched_wires::<N>(&s.matched)) + dirt;
+        let wrong = wrong as usize;
         if node.r == 0 {
             if wrong == 0 {
                 self.offer(s, len, self.allowance - node.budget);
@@ -709,7 +731,8 @@ impl Max<'_> {
             let matched = if t < N { job.matches::<N, FREE>(t, column) } else { 0 };
             let outputs = N as u32 - ones(others[t] | matched);
             let wires = idle[t] + (t < N && matched == 0) as u32;
-            let wrong = outputs.max(wires) as usize;
+            let left = if t == N { (column != 0) as u32 } else { dirt };
+            let wrong = (outputs.max(wires) + left) as usize;
             if wrong > node.r - 1 {
                 continue;
             }

@@ -12,7 +12,7 @@ longer than --cap (wall clock) is ended and shows `> CAP`. The exit code is 1 if
 differ.
 
 Job sets: the default has jobs of 3, 4 and 5 wires within reach of the base rules; --sboxes has
-the S-boxes of source document 002 (limit 12), with plain.rs at --rules full, a cap of 20
+the S-boxes of source document 002 (limit 12, some with an ancilla), with plain.rs at --rules full, a cap of 20
 seconds, and cadical, if it is installed, on the questions of sat.py.
 """
 import argparse
@@ -30,7 +30,8 @@ HERE = os.path.dirname(os.path.abspath(__file__))
 sys.path.insert(0, os.path.join(os.path.dirname(HERE), "tools"))
 from jobs import after, job, sbox  # noqa: E402
 
-SBOXES = ["GIFT", "PRESENT", "RECTANGLE", "SKINNY", "MIDORI", "ELEPHANT", "LBLOCK", "UBLOCK", "inverse (m=1)"]
+SBOXES = ["GIFT", "PRESENT", "RECTANGLE", "SKINNY", "MIDORI", "ELEPHANT", "LBLOCK", "UBLOCK"]
+WITH_ANCILLA = [("GIFT", 12), ("inverse", 9), ("inverse", 10), ("inverse", 11)]  # and their gate limits; free layout
 UNIT = (1, 1, 1)
 LIMIT = 12
 WIDTH = 27  # of a job's name
@@ -65,14 +66,14 @@ def small_jobs():
 
 def sbox_jobs():
     """Name of the job, its bytes, and those of the same job at unit prices."""
-    for name in SBOXES:
-        for free in (0, 1):
-            def record(prices):
-                return job(sbox(name.split()[0]), LIMIT, m=int("m=1" in name), free=free, prices=prices)
+    tables = [(name, LIMIT, 0, free) for name in SBOXES for free in (0, 1)]
+    for name, limit, m, free in tables + [(name, limit, 1, 1) for name, limit in WITH_ANCILLA]:
+        def record(prices):
+            return job(sbox(name), limit, m=m, free=free, prices=prices)
 
-            for prices in (UNIT, (1, 1, 5)):
-                layout = "free" if free else "fixed"
-                yield f"{name} {layout} {','.join(map(str, prices))}", record(prices), record(UNIT)
+        for prices in (UNIT, (1, 1, 5)):
+            words = [name] + ["m=1", str(limit)] * m + ["free" if free else "fixed", ",".join(map(str, prices))]
+            yield " ".join(words), record(prices), record(UNIT)
 
 
 def timed(command, text, cap, codes=(0,)):
@@ -153,7 +154,7 @@ def sat_pair(solver, direct, record, line, cap, repeat):
     the first is left out."""
     n, m, free, rows = record[0] >> 5, record[0] >> 3 & 3, record[0] >> 2 & 1, record[12:]
     found = line.startswith("found")
-    least = int(line.split()[1]) if found else LIMIT + 1
+    least = int(line.split()[1]) if found else record[1] + 1
     runs, wrong = [None, None], ""
     for i, most in ((0, least), (1, least - 1)):
         if i == 0 and not found or most < 0:

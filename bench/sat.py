@@ -7,7 +7,7 @@ A CNF is a list of clauses, a clause a list of literals: a variable, or minus it
  - helpers: for each position which wire is the target and which are controls, and in each row
    whether a control is 0 and whether the target flips;
  - free layout: one for each output and data wire, a one-to-one choice.
-The first values are the row's bits, and 0 for the ancilla; its end value is free. Of two
+The first values are the row's bits, and 0 for the ancilla, which ends at 0 in every row. Of two
 neighbouring gates that commute the first has the lower byte (a circuit of fewest gates has such
 an order, and no gate twice in a row), which is the only symmetry broken.
 With `direct` the helpers and the order are left out, and each gate says itself what it does to
@@ -127,6 +127,8 @@ class Question:
                 self.exactly_one(places[j])
                 self.exactly_one([places[i][j] for i in range(n)])
         for values, row in zip(self.values[-1], self.rows):
+            for ancilla in values[n:]:
+                self.say(-ancilla)
             for j in (j for j in range(n) if row >> (4 + j) & 1):
                 for wire in range(n) if self.free else [j]:
                     literal = values[wire] if row >> j & 1 else -values[wire]
@@ -145,7 +147,7 @@ class Question:
 
 
 def realizes(n, free, rows, gates):
-    """Whether the gate list meets the table, with some layout if free."""
+    """Whether the gate list meets the table and leaves the ancilla at 0, with some layout if free."""
     ends = []
     for value in range(1 << n):
         for gate in gates:
@@ -161,4 +163,4 @@ def realizes(n, free, rows, gates):
         wires = [wire for wire in (range(n) if free else [j]) if wire not in used] if j < n else []
         return j == n or any(holds(wire) and place(j + 1, used | {wire}) for wire in wires)
 
-    return place(0, frozenset())
+    return all(end >> n == 0 for end in ends) and place(0, frozenset())

@@ -71,7 +71,7 @@ MUTANTS = {
     "layout fields from the low end": ("layout >> (6 - 2 * j) & 3", "layout >> (2 * j) & 3"),
     "layout inverted": ("ends[x] >> wire(layout, j) & 1 == row >> j & 1",
                         "ends[x] >> (0..job.n).find(|&i| wire(layout, i) == j).unwrap() & 1 == row >> j & 1"),
-    "ancilla clean": ("if realizes(job, &ends, layout) {", "if realizes(job, &ends, layout) && ends.iter().all(|e| e >> job.n == 0) {"),
+    "ancilla dirty": ("if agrees(job, &ends, layout) && clean(job, &ends) {", "if agrees(job, &ends, layout) {"),
     "ancilla starts at 1": ("run(list, x as u8)", "run(list, x as u8 | job.m << job.n)"),
     "ancilla missing": ("lawful(g, job.n + job.m)", "lawful(g, job.n)"),
     "ancilla always there": ("lawful(g, job.n + job.m)", "lawful(g, job.n + 1)"),

@@ -1,7 +1,7 @@
-"""A slow, plain reading of document 01, kept apart from the proved code.
+"""A slow, plain reading of documents 01 and 02, kept apart from the proved code.
 
-The functions below are written from the paper alone and do the obvious thing
-at every turn, so that a reader can hold them against the paper in one sitting.
+The functions below are written from the papers alone and do the obvious thing
+at every turn, so that a reader can hold them against the papers in one sitting.
 Words: a layout is the paper's placing, a care mask its wanted-bits mask, to
 realize a table is to meet it, and to verify a circuit is to judge it.
 """
@@ -217,13 +217,19 @@ def measure_call(job, circuit):
     return 0, measures_of(given.gates, asked.prices, asked.durations)
 
 
-def realizes(gates, layout, rows):
+def agrees(gates, layout, rows):
     """Whether every output bit that some row cares about ends as it asks.
     Row x starts all wires at x, which leaves an ancilla at 0."""
     wires = layout_wires(layout)
     return all(bit(run(gates, x), wires[j]) == bit(value, j)
                for x, (care, value) in enumerate(rows)
                for j in range(4) if bit(care, j))
+
+
+def clean(gates, n):
+    """Whether the ancilla, wire n, is back at 0 after every row, also after
+    those that care about nothing."""
+    return all(bit(run(gates, x), n) == 0 for x in range(2 ** n))
 
 
 def verify_call(job, circuit):
@@ -233,8 +239,10 @@ def verify_call(job, circuit):
     asked, given = read_job(job), read_circuit(circuit)
     if not asked.free and given.layout != PLAIN_LAYOUT[asked.n]:
         return 15, None
-    if not realizes(given.gates, given.layout, asked.rows):
+    if not agrees(given.gates, given.layout, asked.rows):
         return 16, None
+    if not clean(given.gates, asked.n):
+        return 24, None
     for code, got, limit in zip((17, 18, 19), measured, asked.limits):
         if got > limit:
             return code, None

@@ -121,6 +121,37 @@ RANDOM = """
 6404FFFF00050502010203016466626660626460
 6404FFFF00050502010203016466626660626460
 """.split()
+# Random jobs with an ancilla: the first twelve have an answer that uses it, the others one that would be another were it left dirty.
+ANCILLA = """
+8C03FFFF00BF01010102FF0250A240912066548030AAD8115411BA99
+8C03FFFFFFFF00FF64020203F0F1F2F3F4F5F6FFF8F9FAFBFCFDFEF7
+8C03012C000800FF64020203F0F1F2F3F4F5F6FFF8F9FAFBFCFDFEF7
+8C03FFFFFFFF000000010201F0F1F2F3F4F5F6F7F8F9FAFBFCFFFEFD
+8C030004FFFF010101020104F0F4E0F5F276F3F7D8EC71ECBAFEDDD9
+8C030003FFFF010101020104F0F4E0F5F276F3F7D8EC71ECBAFEDDD9
+8C03FFFF0006010105020401F0F1F2F3F4F5F6F7F8F9FAFFFCFDFEFB
+8C03FFFF0003010105020401F0F1F2F3F4F5F6F7F8F9FAFFFCFDFEFB
+8C030000FFFF010000010107F0F1F8F9F4F5FCFDF2F3FAFFF6F7FEFB
+8C0200000014010000010107F0F1F8F9F4F5FCFDF2F3FAFFF6F7FEFB
+6803FFFF000B0001000102047051626276557431
+6803FFFF00050001000102047051626276557431
+6C030004FFFF00010101FFFF2000403254517632
+6C03FFFF00050101050102017071727374717673
+6803FFFFFFFFFE01000102026071327354757255
+8C02FFFFFFFF01FF64030401D071A2C030E4A222E8A81022DC75EE73
+88020006013E010502FEFF025040623310F5226660C8D877549900FB
+6C03FFFFFFFFFEFF000104043030323233333131
+8802FFFF0003010105030301F0F1F2F3F4F5F6F7F8F9FAFBFCFDFFFE
+8C03FFFF007100000002FF01F0F5F2F6F4F1F7F3F8FDFAFEFCF9FFFB
+8803FFFF014F01030202FE01F0F1F2F300F5FEF7F800FA00FCFDF6FF
+8802FFFFFFFF020202010107F0F1F2F3F4F5F6F7F8F9FAFBFCFDFFFE
+6C02FFFFFFFF0064010101077072645571737476
+8C02FFFFFFFF010501010107F0D1E2E2F4F5F6FFF8F9BAD9FCB9FEF7
+6C03FFFFFFFF030500FF02FF7071727576777473
+68030001000C0100000104027071727174757600
+6803FFFF000C0204000101072020202022222222
+6C03FFFFFFFF0001000201FE7273707177767574
+""".split()
 
 
 def placed(values, wires):
@@ -439,16 +470,32 @@ def layouts(v):
 
 
 def ancillas(v):
-    v.heading("dirty ancilla, n = 4: exchange of rows 7 and 15, limits 0 to 3")
+    v.heading("an ancilla goes back clean, n = 4: exchange of rows 7 and 15, limits 0 to 3, none within 2")
     for limit in range(4):
         v.search(job(ODD_TABLE, limit, m=1))
-    v.search(job(ODD_TABLE, 2, m=1, cost=10, depth=14))
-    v.search(job(ODD_TABLE, 2, m=1, cost=9))
-    v.search(job(ODD_TABLE, 2, m=1, depth=13))
-    v.search(job(ODD_TABLE, 2, m=1, free=1))
-    v.heading("dirty ancilla, n = 3: only bit 0 wanted, 0, limits 2 and 1")
-    v.search(job([0] * 8, 2, m=1, masks=[1] * 8))
-    v.search(job([0] * 8, 1, m=1, masks=[1] * 8))
+    v.search(job(ODD_TABLE, 3, m=1, cost=15, depth=21))
+    v.search(job(ODD_TABLE, 3, m=1, cost=14))
+    v.search(job(ODD_TABLE, 3, m=1, depth=20))
+    v.search(job(ODD_TABLE, 3, m=1, free=1))
+    v.search(job(ODD_TABLE, 3, m=1, prices=(1, 1, 1), durations=(1, 1, 1)))
+    v.search(job(ODD_TABLE, 3, m=1, masks=[8] * 16))
+    v.heading("n = 3: only bit 0 wanted, 0, limits 4 to 1: none, since the ancilla would keep what wire 0 had")
+    for limit in (4, 3, 2, 1):
+        v.search(job([0] * 8, limit, m=1, masks=[1] * 8))
+    v.heading("few rows wanted, with an ancilla")
+    v.search(job([0] * 8, 3, m=1, masks=[0, 1] * 4))
+    v.search(job([0] * 8, 3, m=1, masks=[0, 1, 0, 0, 0, 0, 0, 0]))
+    v.search(job([0] * 8, 3, m=1, masks=[0, 1, 0, 1, 0, 0, 0, 0]))
+    v.search(job([0] * 16, 2, m=1, masks=[0] * 15 + [15]))
+    v.search(job([0] * 16, 3, m=1, masks=[1, 1] + [0] * 14))
+    v.heading("a product made, used and unmade: three Toffolis on five wires; on four one does")
+    v.search(job(after([0x83, 0x74, 0x83], 4, m=1), 3, m=1))
+    v.search(job(after([0x86, 0x18, 0x86], 4, m=1), 3, m=1, prices=(1, 2, 3)))
+    v.search(job(after([0x63, 0x48, 0x63], 3, m=1), 4, m=1))
+    v.search(job(after([0x63, 0x28, 0x48, 0x63], 3, m=1), 4, m=1, prices=(1, 1, 5)))
+    v.heading("random jobs with an ancilla, all shapes of care masks")
+    for record in ANCILLA:
+        v.search(bytes.fromhex(record))
     v.heading("an ancilla that isn't needed stays out")
     v.search(job(SAMPLE_ROWS, 3, m=1))
     v.search(job(SAMPLE_ROWS, 2, m=1))
@@ -486,7 +533,7 @@ def small_tables(v):
         v.search(job(after(gates, 4), len(gates)))
         v.search(job(after(gates, 4), len(gates) - 1))
         v.search(job(after(gates, 4), min(len(gates), 3), m=1, prices=(3, 2, 1)))
-    v.heading("five gates on four wires; three gates with a dirty ancilla on five")
+    v.heading("five gates on four wires; three on five that leave the ancilla dirty, and whose table wants more")
     five = after([0x0A, 0x49, 0x21, 0x66, 0x2C], 4)
     v.search(job(five, 5))
     v.search(job(five, 4))

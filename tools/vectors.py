@@ -27,10 +27,10 @@ import sys
 
 import reference as ref
 
-FILE_BELOW = 48 * 1024
+FILE_BELOW = 56 * 1024
 LINE_BELOW = 8000
 # The rules in the order in which they are asked; the first one broken is told.
-ORDER = [1, 2, 3, 4, 5, 6, 7, 8, 9, 10, 21, 12, 15, 16, 17, 18, 19]
+ORDER = [1, 2, 3, 4, 5, 6, 7, 8, 9, 10, 21, 12, 15, 16, 24, 17, 18, 19]
 SHAPES = [(3, 0), (3, 1), (4, 0), (4, 1)]       # n and m
 GATES = {wires: ref.gate_table(wires) for wires in (3, 4, 5)}
 
@@ -567,6 +567,8 @@ def pair_breaks(n, m):
     other = ref.layouts(n)[1]
     breaks[15] = lambda j, c: (j[:12] + full(outputs(n, c[3:], other)), put(c, 1, other))
     breaks[16] = lambda j, c: (put(j, 13, j[13] ^ 1), c)
+    if m == 1:      # another product added to the ancilla last; unlawful gates stay
+        breaks[24] = lambda j, c: (j, put(c, len(c) - 1, 0x85) if c[-1] == 0x83 else c)
     for which in range(3):
         breaks[17 + which] = lambda j, c, which=which: (
             with_limit(j, which, limits_of(j)[which] - 1), c)
@@ -581,17 +583,18 @@ def broken(pair, breaks, codes):
     return asked, given
 
 
-def pair_order(calls, name, codes):
+def pair_order(calls, name, asked):
     """Each rule broken alone, then two at once (all twos, or neighbours only),
     then all from one on. Codes 4 and 17 do not go together: a gate limit above
-    12 is never missed by a sound circuit."""
+    12 is never missed by a sound circuit. Code 24 wants an ancilla."""
     calls.heading(name + ": one rule broken, two, and all from one on")
-    all_twos, neighbours = itertools.combinations(codes, 2), zip(codes, codes[1:])
-    for n, m, gates, twos in ((3, 0, "022143", all_twos), (4, 1, "837428", neighbours)):
+    for n, m, gates, neighbours_only in ((3, 0, "022143", False), (4, 1, "837483", True)):
         pair = exact_pair(n, m, bytes.fromhex(gates))
         breaks = pair_breaks(n, m)
         calls.add(within(limits_of(pair[0])), name, *pair)
+        codes = [code for code in asked if code in breaks]
         ones = [(code,) for code in codes]
+        twos = zip(codes, codes[1:]) if neighbours_only else itertools.combinations(codes, 2)
         rests = [codes[at:] for at in range(len(codes) - 2)]
         for some in itertools.chain(ones, twos, rests):
             together = [code for code in some if code != 17 or 4 not in some]
@@ -727,11 +730,15 @@ def samples():
         (job(3, swap37, gates=1, cost=4), "60180143", 18),
         (job(3, swap37, gates=1, depth=7), "60180143", (1, 5, 7)),
         (job(3, swap37, gates=1, depth=6), "60180143", 19),
-        (job(4, swap715, 1, gates=2), "881B028374", (2, 10, 14)),
+        (job(4, swap715, 1, gates=2), "881B028374", 24),
+        (job(4, swap715, 1, gates=1), "881B028374", 24),
         (job(4, swap715, 1, gates=3), "881B03837483", (3, 15, 21)),
         (job(4, swap715, 1, gates=3), "881B03857285", (3, 15, 21)),
         (job(4, swap715, 1, gates=3), "881B03867186", (3, 15, 21)),
-        (job(3, only0, 1, gates=2), "6818026108", (2, 2, 2)),
+        (job(3, only0, 1, gates=2), "6818026108", 24),
+        (job(3, only0, 1, gates=2), "68180160", 16),
+        (job(3, bytes(8), 1, gates=0), "68180160", 24),
+        (job(3, bytes(8), 1, gates=2), "6818026060", (2, 2, 2)),
         (job(4, prost, free=1, gates=4), "80B104062C6349", (4, 20, 28)),
         (job(4, prost, free=1, gates=3), "80B104062C6349", 17),
         (job(4, prost, gates=4), "80B104062C6349", 15),
@@ -817,7 +824,7 @@ def verify_rows(calls):
 
 def verify_layouts(calls):
     calls.heading("verify: each layout with a free and with a fixed job")
-    for n, m, gates in ((3, 0, "0221"), (3, 1, "6128"), (4, 0, "0C2143")):
+    for n, m, gates in ((3, 0, "0221"), (3, 1, "612861"), (4, 0, "0C2143")):
         gates = bytes.fromhex(gates)
         for layout in ref.layouts(n):
             asked, given = exact_pair(n, m, gates, layout, 1)
@@ -827,30 +834,47 @@ def verify_layouts(calls):
             calls.add(within(limits_of(asked)) if plain else 15, "verify", *fixed)
         asked, given = exact_pair(n, m, gates, free=1)
         calls.add(16, "verify", asked, put(given, 1, ref.layouts(n)[1]))
-    calls.heading("verify: an ancilla starts at 0 and may end as it likes")
+    calls.heading("verify: an ancilla starts at 0 and ends there, whatever the rows want")
     for n, gates, want in (
-            (3, "", (0, 0, 0)), (3, "60", (1, 1, 1)), (3, "63", (1, 5, 7)), (3, "28", (1, 1, 1)),
-            (3, "6028", 16), (3, "60286020", (4, 4, 3)), (3, "602820", (3, 3, 3)),
-            (4, "80", (1, 1, 1)), (4, "10", (1, 1, 1)), (4, "8010", 16), (4, "801000", (3, 3, 3))):
-        calls.add(want if want == 16 else within(want), "verify",
+            (3, "", (0, 0, 0)), (3, "60", 24), (3, "63", 24), (3, "28", (1, 1, 1)), (3, "6363", (2, 10, 14)),
+            (3, "6028", 16), (3, "60286020", (4, 4, 3)), (3, "602820", 24), (3, "6163", 24),
+            (4, "80", 24), (4, "10", (1, 1, 1)), (4, "8010", 16), (4, "801000", 24), (4, "80100080", (4, 4, 3))):
+        calls.add(want if isinstance(want, int) else within(want), "verify",
                   job(n, own(n), 1), circuit(n, 1, bytes.fromhex(gates)))
+        if want != 16 and n == 3:
+            calls.add(want if isinstance(want, int) else within(want), "verify",
+                      job(n, bytes(2 ** n), 1), circuit(n, 1, bytes.fromhex(gates)))
+    calls.heading("verify: an ancilla left at 1 in two rows, which alone are wanted, or alone unwanted")
+    lists = [(3, [*flips, 0x63, *flips]) for flips in ([], [0x00], [0x20], [0x00, 0x20])]
+    for n, gates in [*lists, (4, bytes.fromhex("638C638C"))]:
+        dirty = [x for x in range(2 ** n) if ref.bit(ref.run(gates, x), n)]
+        assert len(dirty) == 2
+        rows = own(n)
+        alone = bytes(row if x in dirty else 0 for x, row in enumerate(rows))
+        others = bytes(0 if x in dirty else row for x, row in enumerate(rows))
+        for some in (rows, alone, others):
+            calls.add(24, "verify", job(n, some, 1), circuit(n, 1, gates))
+        calls.add(within(ref.measures_of([*gates, *gates], (1, 1, 5), (1, 1, 7))), "verify",
+                  job(n, rows, 1), circuit(n, 1, [*gates, *gates]))
 
 
 def verify_drawn(calls):
     draw = Draw(5)
     prices, durations = (2, 3, 4), (3, 5, 9)
-    calls.heading("verify: lists and care masks drawn at random, then one bit turned")
+    calls.heading("verify: lists and care masks drawn at random, then one bit turned; with an ancilla also the list undone")
     for n, m in SHAPES:
         for length in (0, 1, 4, 9, 12):
             gates = draw.gates(n + m, length)
             layout = draw.among(ref.layouts(n))
-            rows = bytearray(full(outputs(n, gates, layout)))
-            for x in range(2 ** n):
-                rows[x] &= 0x11 * (draw.below(2 ** n) if x != 5 else 15)
-            asked = job(n, rows, m, 1, prices=prices, durations=durations)
-            given = circuit(n, m, gates, layout)
-            calls.add(within(ref.measures_of(gates, prices, durations)), "verify", asked, given)
-            calls.add(16, "verify", put(asked, 17, asked[17] ^ 1 << draw.below(n)), given)
+            for some in [gates] + ([gates[:6] + gates[5::-1]] if m == 1 and length in (4, 9) else []):
+                rows = bytearray(full(outputs(n, some, layout)))
+                for x in range(2 ** n):
+                    rows[x] &= 0x11 * (draw.below(2 ** n) if x != 5 else 15)
+                asked = job(n, rows, m, 1, prices=prices, durations=durations)
+                given = circuit(n, m, some, layout)
+                passed = within(ref.measures_of(some, prices, durations))
+                calls.add(passed if ref.clean(some, n) else 24, "verify", asked, given)
+                calls.add(16, "verify", put(asked, 17, asked[17] ^ 1 << draw.below(n)), given)
 
 
 def verify_refused(calls):

@@ -9,9 +9,10 @@ use Rattle.gate.specs.Gates.{lawful}
 use Rattle.circuit.specs.Inner.{columnsAfter}
 use Rattle.table.specs.Layouts.{Width, layoutsFor}
 use Rattle.columns.specs.declared.Wanted.{Wanted}
-use Rattle.columns.specs.Wanted.{met}
+use Rattle.columns.specs.Wanted.{met, tidy}
 
--- a list of gates with at most k controls leads from these columns to columns that meet the wanted ones of n outputs under an allowed layout
+-- a list of gates with at most k controls leads from these columns to columns that meet the wanted ones of n outputs under an allowed layout,
+-- with the ancilla at 0
 pub record Finish (k : ℕ) (t : Wanted) (n free : ℕ) (cs e : List ℕ) (p : ℕ) : Type 0 where
   pub width : Width n
   pub four : length (t .care) ≡ 4
@@ -19,3 +20,4 @@ pub record Finish (k : ℕ) (t : Wanted) (n free : ℕ) (cs e : List ℕ) (p : �
   pub kept : allOf (lawful k 5) e ≡ true
   pub laid : List·Memᴰ p (layoutsFor n free)
   pub meets : met t (columnsAfter e cs) p ≡ true
+  pub tidied : tidy n (columnsAfter e cs) ≡ true

@@ -5,7 +5,7 @@ use Prim.Native.Nat.{ℕ, _+_, _*_}
 use lib.Bits.{bitAnd, bitXor}
 use lib.Dec.{eqb}
 use lib.ListN.{getD}
-use Rattle.logic.specs.Rules.{pick, allBelow}
+use Rattle.logic.specs.Rules.{both, pick, allBelow}
 use Rattle.logic.specs.Lists.{back}
 use Rattle.logic.specs.Bit.{bitOf}
 use Rattle.table.specs.Layouts.{wireOf}
@@ -49,3 +49,19 @@ fits t cs p j = fitting t (getD cs (wireOf p j) 0) j
 
 unfoldable pub met : Wanted → List ℕ → ℕ → Bool
 met t cs p = allBelow 4 (fits t cs p)
+
+-- the rows of a table of n outputs, a bit each
+abbrev pub allRows : ℕ → ℕ
+allRows n = pick (eqb n 3) 255 65535
+
+-- the rows in which the ancilla's column is not 0
+unfoldable pub dirt : ℕ → ℕ → ℕ
+dirt n column = bitAnd column (allRows n)
+
+-- the ancilla, wire n, is 0 in every row
+abbrev pub tidy : ℕ → List ℕ → Bool
+tidy n cs = eqb (dirt n (getD cs n 0)) 0
+
+-- nothing is left to do
+abbrev pub reached : Wanted → ℕ → List ℕ → ℕ → Bool
+reached t n cs p = both (met t cs p) (tidy n cs)

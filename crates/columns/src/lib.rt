@@ -2,7 +2,7 @@
 ghost use mathlib.Core.Path.{_≡_};
 ghost use Prim.Native.Nat.{_≤_, _<_};
 ghost use lib.ListN.{length, getD};
-ghost use Rattle.columns.specs.Wanted.{columnOf, rowBit, columnsOf, wantedOf, startColumns, misses, fits, met};
+ghost use Rattle.columns.specs.Wanted.{columnOf, rowBit, columnsOf, wantedOf, startColumns, misses, fits, met, allRows, dirt, tidy, reached};
 
 // What a table wants of each output: the rows that care, and the bits of those rows.
 pub struct Wanted {
@@ -93,7 +93,7 @@ fn fits(t: Wanted, columns: [u16; 5], p: u8, j: usize) -> bool
 }
 
 // Whether the columns, with the outputs laid out so, have every wanted bit of the table.
-pub fn met(t: Wanted, columns: [u16; 5], p: u8) -> bool
+fn met(t: Wanted, columns: [u16; 5], p: u8) -> bool
     ensures { λ r. ⌜ r ≡ met t columns p ⌝ }
 {
     let low = logic::both(
@@ -104,4 +104,32 @@ pub fn met(t: Wanted, columns: [u16; 5], p: u8) -> bool
         fits(t, columns, p, 3),
         logic::both(fits(t, columns, p, 2), low),
     )
+}
+
+// The rows of a table of `n` outputs, a bit each.
+pub fn all_rows(n: usize) -> u16
+    ensures { λ r. ⌜ r ≡ allRows n ⌝ }
+{
+    if n == 3 { 255 } else { 65535 }
+}
+
+// The rows in which the ancilla's column is not 0.
+pub fn dirt(n: usize, column: u16) -> u16
+    ensures { λ r. ⌜ r ≡ dirt n column ⌝ }
+{
+    column & all_rows(n)
+}
+
+// Whether the ancilla, wire `n`, is 0 in every row.
+pub fn tidy(n: usize, columns: [u16; 5]) -> bool
+    ensures { λ r. ⌜ r ≡ tidy n columns ⌝ }
+{
+    dirt(n, logic::cell(columns, n)) == 0
+}
+
+// Whether nothing is left to do: the outputs are met, and the ancilla is at 0.
+pub fn reached(t: Wanted, n: usize, columns: [u16; 5], p: u8) -> bool
+    ensures { λ r. ⌜ r ≡ reached t n columns p ⌝ }
+{
+    logic::both(met(t, columns, p), tidy(n, columns))
 }

@@ -1,8 +1,8 @@
 -- Bits joined as numbers are the tests joined, and the four outputs of a row are tested as each alone.
-use mathlib.Core.Path.{_≡_, refl, ap, ap₂, _∙_}
+use mathlib.Core.Path.{_≡_, refl, sym, ap, ap₂, _∙_}
 use mathlib.Core.Logic.{⊎-elim}
 use mathlib.Core.Bool.{Bool, true, false, not}
-use mathlib.Core.List.{List, map}
+use mathlib.Core.List.{List, [], _∷_, map}
 use Prim.Native.Nat.{ℕ, zero, suc, _+_, _≤_, _<_}
 use native.Mathlib.Decide.{ℕ-discrete}
 use native.Mathlib.Omega.{arith}
@@ -16,8 +16,8 @@ use Rattle.logic.specs.Rules.{both, either, pick, bit, allBelow, someBelow}
 use Rattle.logic.proofs.Chain.{either-none}
 use Rattle.table.specs.Layouts.{Width}
 use Rattle.columns.specs.declared.Wanted.{Wanted}
-use Rattle.columns.specs.Wanted.{misses}
-use Rattle.outputs.specs.Owed.{missed, product, mayControl, mendableOn, mendable}
+use Rattle.columns.specs.Wanted.{misses, allRows, dirt, tidy}
+use Rattle.outputs.specs.Owed.{missed, product, mayControl, mendableOn, mendable, cleanable}
 use Rattle.outputs.proofs.Planned.{fewWires, few-wires}
 use Rattle.outputs.specs.Inner.{productsOf, othersOf, hitBit, anyHit, hitsOf, mended, rowHits, wireHits}
 
@@ -47,6 +47,10 @@ pick-le false x = omega arith
 both-all : (a : Bool) → a ≡ both a true
 both-all true = refl
 both-all false = refl
+
+pub pick-both : (a b : Bool) → both a b ≡ pick a b false
+pick-both true b = refl
+pick-both false b = refl
 
 pub bit-none : (a : Bool) → eqb (bit a) 0 ≡ not a
 bit-none true = refl
@@ -111,13 +115,14 @@ module _ (cs : List ℕ) (care want : ℕ) where
   abbrev added : ℕ → Bool
   added w = someBelow 32 (λ m. both (mayControl w m) (eqb (bitAnd (product cs m) care) want))
 
-  some-added : (w : ℕ) → w < 4 → among w ≡ added w
+  some-added : (w : ℕ) → w < 5 → among w ≡ added w
   unfolding ones onesIn trailingZeros leadingZeros
   some-added zero h = refl
   some-added (suc zero) h = refl
   some-added (suc (suc zero)) h = refl
   some-added (suc (suc (suc zero))) h = refl
-  some-added (suc (suc (suc (suc w)))) h = absurd (omega arith)
+  some-added (suc (suc (suc (suc zero)))) h = refl
+  some-added (suc (suc (suc (suc (suc w))))) h = absurd (omega arith)
 
 mended-is : (t : Wanted) (cs ps : List ℕ) → ps ≡ productsOf cs → (w j : ℕ) → w < 4 → mended ps (othersOf w) (getD (t .care) j 0) (misses t (getD cs w 0) j) ≡ mendableOn t cs w j
 unfolding mended mendableOn productsOf
@@ -125,7 +130,18 @@ mended-is t cs ps hp w j h =
     let p : ps ≡ map (product cs) fewWires = hp ∙ ap (map (product cs)) few-wires in
     ap (both (missed t cs w j))
     (ap (λ (l : List ℕ). someBelow 16 (λ i. hitBit i (getD l i 0) (othersOf w) (getD (t .care) j 0) (misses t (getD cs w 0) j))) p
-    ∙ some-added cs (getD (t .care) j 0) (misses t (getD cs w 0) j) w h)
+    ∙ some-added cs (getD (t .care) j 0) (misses t (getD cs w 0) j) w (omega arith))
+
+-- the ancilla's test is that of one output, with nothing asked of three others
+pub cleaned : (cs ps : List ℕ) (n rows : ℕ) → n < 5 → ps ≡ productsOf cs → rows ≡ allRows n
+    → rowHits ps (rows ∷ 0 ∷ 0 ∷ 0 ∷ []) (othersOf n) (dirt n (getD cs n 0)) 0 0 0 0 0 0 ≡ cleanable cs n
+unfolding rowHits mended cleanable productsOf
+cleaned cs ps n rows h hp hr =
+    let p : ps ≡ map (product cs) fewWires = hp ∙ ap (map (product cs)) few-wires in
+    let d = dirt n (getD cs n 0) in
+    sym (either-none _)
+    ∙ ap (both (not (tidy n cs)))
+    (ap₂ (λ (l : List ℕ) (k : ℕ). someBelow 16 (λ i. hitBit i (getD l i 0) (othersOf n) k d)) p hr ∙ some-added cs (allRows n) d n h)
 
 -- where no row is missed, nothing is mended
 mended-none : (ps : List ℕ) (allowed care : ℕ) → mended ps allowed care 0 ≡ false

@@ -24,10 +24,10 @@ use Rattle.gate.specs.Inner.{firing, columnStep}
 use Rattle.gate.proofs.Widen.{parts}
 use Rattle.table.specs.Layouts.{Width}
 use Rattle.columns.specs.declared.Wanted.{Wanted}
-use Rattle.columns.specs.Wanted.{misses, fitting}
+use Rattle.columns.specs.Wanted.{misses, fitting, tidy}
 use Rattle.outputs.specs.declared.Plan.{Plan}
-use Rattle.outputs.specs.Owed.{missed, alone, owed, lost, mends, worth, product}
-use Rattle.outputs.specs.Inner.{productsOf, four, tableOf, digits, aloneBit, setOf, planOf, packed, hasOutput, hasOne, mendsBy, placesOf, spreadOf, spotsOf}
+use Rattle.outputs.specs.Owed.{missed, alone, owed, spoilt, due, lost, mends, worth, product}
+use Rattle.outputs.specs.Inner.{productsOf, four, tableOf, digits, aloneBit, setOf, planOf, packed, hasOutput, hasOne, mendsBy, placesOf, spreadOf, spotsOf, spoiltSpots}
 
 -- what holds at each number below five holds at any
 by-five : (P : ℕ → Type 0) → P 0 → P 1 → P 2 → P 3 → P 4 → (w : ℕ) → w < 5 → P w
@@ -97,7 +97,7 @@ pub at-masks : (t : Wanted) (cs : List ℕ) → atMasks (productsOf cs) (t .valu
 unfolding productsOf
 at-masks t cs = ap (λ ms. atMasks (map (product cs) ms) (t .value) (t .care)) few-wires ∙ few-at-masks t cs
 
-bit-one : (b : Bool) → eqb (bit b) 1 ≡ b
+pub bit-one : (b : Bool) → eqb (bit b) 1 ≡ b
 bit-one true = refl
 bit-one false = refl
 
@@ -162,13 +162,21 @@ module _ (t : Wanted) (cs : List ℕ) (free w column : ℕ) where
           rw (one-of, output-at w l)
       by-wire (no h) = rw (le-ltb w n (omega arith))
 
+pub narrow : {n : ℕ} → Width n → n < 5
+narrow width = ⊎-elim (λ e. omega arith) (λ e. omega arith) width
+
+pub owed-few : (t : Wanted) (cs : List ℕ) (n free : ℕ) → Width n → (w : ℕ) → owed t cs n free w ≤ 4
+unfolding owed
+owed-few t cs n free width w = ⊎-elim (λ e. omega (arith, count-le (alone t cs n free w) n)) (λ e. omega (arith, count-le (alone t cs n free w) n)) width
+
+due-few : (t : Wanted) (cs : List ℕ) (n free : ℕ) → Width n → (w : ℕ) → due t cs n free w < 16
+unfolding due
+due-few t cs n free width w = omega (arith, owed-few t cs n free width w, bit-le (spoilt cs n w))
+
 module _ (t : Wanted) (cs : List ℕ) (n free : ℕ) (width : Width n) (w : ℕ) (h : w < 5) where
-  size-at : planOf t cs n free .sizes / 2 ^ (4 * w) % 16 ≡ owed t cs n free w
-  unfolding planOf owed
-  size-at = digit (owed t cs n free) w h (λ i l. few i)
-    where
-      few : (i : ℕ) → owed t cs n free i < 16
-      few i = ⊎-elim (λ e. omega (arith, count-le (alone t cs n free i) n)) (λ e. omega (arith, count-le (alone t cs n free i) n)) width
+  size-at : planOf t cs n free .sizes / 2 ^ (4 * w) % 16 ≡ due t cs n free w
+  unfolding planOf
+  size-at = digit (due t cs n free) w h (λ i l. due-few t cs n free width i)
 
   set-at : planOf t cs n free .sets / 2 ^ (4 * w) % 16 ≡ setOf t cs n free w
   unfolding planOf setOf
@@ -190,12 +198,12 @@ next-read g hg t cs table l ht =
 -- the test of a gate, from what the plan says of it
 module _ (t : Wanted) (cs : List ℕ) (n free g reach : ℕ) (width : Width n) (hg : lawful 2 5 g ≡ true)
     (plan : Plan) (hp : plan ≡ planOf t cs n free) where
-  size-told : plan .sizes / 2 ^ (4 * targetOf g) % 16 ≡ owed t cs n free (targetOf g)
+  size-told : plan .sizes / 2 ^ (4 * targetOf g) % 16 ≡ due t cs n free (targetOf g)
   size-told = rw hp (size-at t cs n free width (targetOf g) (parts 2 5 g hg .target))
 
   pub worth-size : (plan .sizes / 2 ^ (4 * targetOf g) % 16 ≡ reach → ⊥) → ltb (plan .sizes / 2 ^ (4 * targetOf g) % 16) reach ≡ worth t cs n free g reach
   unfolding worth
-  worth-size f = let e = size-told in rw (ne-eqb (owed t cs n free (targetOf g)) reach (λ h. f (e ∙ h)), ← e)
+  worth-size f = let e = size-told in rw (ne-eqb (due t cs n free (targetOf g)) reach (λ h. f (e ∙ h)), ← e)
 
   pub worth-mends : plan .sizes / 2 ^ (4 * targetOf g) % 16 ≡ reach → (table : List ℕ) → table ≡ tableOf t cs → (column : ℕ)
       → column ≡ getD (columnStep (gateOf g) cs) (targetOf g) 0
@@ -204,7 +212,7 @@ module _ (t : Wanted) (cs : List ℕ) (n free g reach : ℕ) (width : Width n) (
   worth-mends f table ht column hc =
       let e = sym size-told ∙ f in
       let s = ap (λ (x : Plan). x .sets / 2 ^ (4 * targetOf g) % 16) hp ∙ set-at t cs n free width (targetOf g) (parts 2 5 g hg .target) in
-      rw (eq-eqb (owed t cs n free (targetOf g)) reach e, ht, s, hc)
+      rw (eq-eqb (due t cs n free (targetOf g)) reach e, ht, s, hc)
       (mends-by t cs free (targetOf g) (getD (columnStep (gateOf g) cs) (targetOf g) 0) n width)
 
 -- with the wires that have an output in a set, a target's digit is 1 where no other wire is in it
@@ -243,24 +251,23 @@ module _ (t : Wanted) (cs : List ℕ) (j : ℕ) where
   unfolding placesOf spotsOf alone
   free-three h = rw (lt-ltb j 3 h) (spread-set (on 0) (on 1) (on 2) false)
 
--- where an output has its own wire only, that wire is the one target for which it is alone if the wire has it, and else every target is
-fixed-set : (x : Bool) (j : ℕ) → j < 4 → pick x (1 * 2 ^ (4 * j) % 2 ^ 32) 69905 ≡ digits (λ wire. bit (either (eqb j wire) (not x)))
-fixed-set true j h =
-    by-five (λ i. i < 4 → 1 * 2 ^ (4 * i) % 2 ^ 32 ≡ digits (λ wire. bit (either (eqb i wire) false)))
-    (λ l. refl) (λ l. refl) (λ l. refl) (λ l. refl) (λ l. absurd (omega arith)) j (omega arith) h
-fixed-set false j h =
-    by-five (λ i. i < 4 → 69905 ≡ digits (λ wire. bit (either (eqb i wire) true)))
-    (λ l. refl) (λ l. refl) (λ l. refl) (λ l. refl) (λ l. absurd (omega arith)) j (omega arith) h
+-- where an output has its own wire only, that wire is the one target for which it is alone if the wire has it, and else every target is;
+-- so it is with the ancilla
+fixed-set : (x : Bool) (j : ℕ) → j < 5 → pick x (1 * 2 ^ (4 * j) % 2 ^ 32) 69905 ≡ digits (λ wire. bit (either (eqb j wire) (not x)))
+fixed-set true = by-five (λ i. 1 * 2 ^ (4 * i) % 2 ^ 32 ≡ digits (λ wire. bit (either (eqb i wire) false))) refl refl refl refl refl
+fixed-set false = by-five (λ i. 69905 ≡ digits (λ wire. bit (either (eqb i wire) true))) refl refl refl refl refl
 
-pub digit-most : (j : ℕ) → j < 4 → 1 * 2 ^ (4 * j) % 2 ^ 32 ≤ 69905
-digit-most j h =
-    by-five (λ i. i < 4 → 1 * 2 ^ (4 * i) % 2 ^ 32 ≤ 69905)
-    (λ l. omega arith) (λ l. omega arith) (λ l. omega arith) (λ l. omega arith) (λ l. absurd (omega arith)) j (omega arith) h
+pub digit-most : (j : ℕ) → j < 5 → 1 * 2 ^ (4 * j) % 2 ^ 32 ≤ 69905
+digit-most = by-five (λ i. 1 * 2 ^ (4 * i) % 2 ^ 32 ≤ 69905) (omega arith) (omega arith) (omega arith) (omega arith) (omega arith)
+
+pub spoilt-at : (cs : List ℕ) (n : ℕ) → n < 5 → pick (tidy n cs) (1 * 2 ^ (4 * n) % 2 ^ 32) 69905 ≡ spoiltSpots cs n
+unfolding spoiltSpots
+spoilt-at cs n h = fixed-set (tidy n cs) n h
 
 module _ (t : Wanted) (cs : List ℕ) (n free j : ℕ) where
   pub fixed-at : (free ≡ 1 → ⊥) → j < n → j < 4 → pick (fitting t (getD cs j 0) j) (1 * 2 ^ (4 * j) % 2 ^ 32) 69905 ≡ spotsOf t cs n free j
   unfolding spotsOf alone
-  fixed-at f h l = rw (ne-eqb free 1 f, lt-ltb j n h) (fixed-set (fitting t (getD cs j 0) j) j l)
+  fixed-at f h l = rw (ne-eqb free 1 f, lt-ltb j n h) (fixed-set (fitting t (getD cs j 0) j) j (omega arith))
 
   pub free-at : free ≡ 1 → Width n → j < n → spreadOf (placesOf t cs n j) ≡ spotsOf t cs n free j
   free-at e width h =
@@ -273,6 +280,9 @@ module _ (t : Wanted) (cs : List ℕ) (n free j : ℕ) where
 sum-digits : (f g h k : ℕ → ℕ) → digits f + digits g + digits h + digits k ≡ digits (λ w. f w + g w + h w + k w)
 sum-digits f g h k = omega arith
 
+one-more : (f g : ℕ → ℕ) → digits f + digits g ≡ digits (λ w. f w + g w)
+one-more f g = omega arith
+
 sum-sets : (f g h k : ℕ → ℕ) → digits f + 2 * digits g + 4 * digits h + 8 * digits k ≡ digits (λ w. f w + 2 * g w + 4 * h w + 8 * k w)
 sum-sets f g h k = omega arith
 
@@ -284,9 +294,9 @@ module _ (t : Wanted) (cs : List ℕ) (n free : ℕ) (width : Width n) where
   unfolding owed
   owed-sum w = ⊎-elim (λ (e : n ≡ 3). rw e (omega arith)) (λ (e : n ≡ 4). rw e (omega arith)) width
 
-  sizes-is : spotsOf t cs n free 0 + spotsOf t cs n free 1 + spotsOf t cs n free 2 + spotsOf t cs n free 3 ≡ digits (owed t cs n free)
+  outputs-is : spotsOf t cs n free 0 + spotsOf t cs n free 1 + spotsOf t cs n free 2 + spotsOf t cs n free 3 ≡ digits (owed t cs n free)
   unfolding spotsOf
-  sizes-is =
+  outputs-is =
       sum-digits (λ w. aloneBit t cs n free w 0) (λ w. aloneBit t cs n free w 1) (λ w. aloneBit t cs n free w 2) (λ w. aloneBit t cs n free w 3)
       ∙ same-digits _ (owed t cs n free) owed-sum
 
@@ -294,33 +304,37 @@ module _ (t : Wanted) (cs : List ℕ) (n free : ℕ) (width : Width n) where
   unfolding spotsOf setOf
   sets-is = sum-sets (λ w. aloneBit t cs n free w 0) (λ w. aloneBit t cs n free w 1) (λ w. aloneBit t cs n free w 2) (λ w. aloneBit t cs n free w 3)
 
-  owed-few : (w : ℕ) → owed t cs n free w ≤ 4
-  unfolding owed
-  owed-few w = ⊎-elim (λ e. omega (arith, count-le (alone t cs n free w) n)) (λ e. omega (arith, count-le (alone t cs n free w) n)) width
+  sizes-is : digits (owed t cs n free) + spoiltSpots cs n ≡ digits (due t cs n free)
+  unfolding spoiltSpots due
+  sizes-is = one-more (owed t cs n free) (λ w. bit (spoilt cs n w))
 
-  lost-is : digits (owed t cs n free) / 65536 ≡ lost t cs n free
-  lost-is = omega (arith, owed-few 0, owed-few 1, owed-few 2, owed-few 3)
+  lost-is : digits (owed t cs n free) / 65536 + bit (not (tidy n cs)) ≡ lost t cs n free
+  unfolding lost
+  lost-is =
+      let few = owed-few t cs n free width in
+      omega (arith, few 0, few 1, few 2, few 3)
 
-  pub plan-is : (a b c d : ℕ) → a ≡ spotsOf t cs n free 0 → b ≡ spotsOf t cs n free 1 → c ≡ spotsOf t cs n free 2 → d ≡ spotsOf t cs n free 3
-      → packed a b c d ≡ planOf t cs n free
+  pub plan-is : (a b c d e dirty : ℕ) → a ≡ spotsOf t cs n free 0 → b ≡ spotsOf t cs n free 1 → c ≡ spotsOf t cs n free 2 → d ≡ spotsOf t cs n free 3
+      → e ≡ spoiltSpots cs n → dirty ≡ bit (not (tidy n cs))
+      → packed a b c d e dirty ≡ planOf t cs n free
   unfolding planOf
-  plan-is a b c d ha hb hc hd = rw (ha, hb, hc, hd, sets-is, sizes-is, lost-is)
+  plan-is a b c d e dirty ha hb hc hd he hk = rw (ha, hb, hc, hd, he, hk, sets-is, outputs-is, sizes-is, lost-is)
 
   pub lost-at : planOf t cs n free .lost ≡ lost t cs n free
   unfolding planOf
   lost-at = refl
 
--- what is lost, output by output
+-- what is owed, output by output
 module _ (t : Wanted) (cs : List ℕ) (n free : ℕ) (width : Width n) (a b c d : ℕ) where
-  pub free-lost : free ≡ 1 → a ≡ bit (allBelow n (λ w. missed t cs w 0)) → b ≡ bit (allBelow n (λ w. missed t cs w 1))
+  pub free-owed : free ≡ 1 → a ≡ bit (allBelow n (λ w. missed t cs w 0)) → b ≡ bit (allBelow n (λ w. missed t cs w 1))
       → c ≡ bit (allBelow n (λ w. missed t cs w 2)) → d ≡ bit (allBelow n (λ w. missed t cs w 3))
-      → pick (eqb n 4) d 0 + (c + (b + a)) ≡ lost t cs n free
+      → pick (eqb n 4) d 0 + (c + (b + a)) ≡ owed t cs n free 4
   unfolding owed alone
-  free-lost e ha hb hc hd =
+  free-owed e ha hb hc hd =
       ⊎-elim (λ (h : n ≡ 3). rw (ha, hb, hc, hd, h, eq-eqb free 1 e) (omega arith)) (λ (h : n ≡ 4). rw (ha, hb, hc, hd, h, eq-eqb free 1 e) (omega arith)) width
 
-  pub fixed-lost : (free ≡ 1 → ⊥) → a ≡ bit (missed t cs 0 0) → b ≡ bit (missed t cs 1 1) → c ≡ bit (missed t cs 2 2) → d ≡ bit (missed t cs 3 3)
-      → pick (eqb n 4) d 0 + (c + (b + a)) ≡ lost t cs n free
+  pub fixed-owed : (free ≡ 1 → ⊥) → a ≡ bit (missed t cs 0 0) → b ≡ bit (missed t cs 1 1) → c ≡ bit (missed t cs 2 2) → d ≡ bit (missed t cs 3 3)
+      → pick (eqb n 4) d 0 + (c + (b + a)) ≡ owed t cs n free 4
   unfolding owed alone
-  fixed-lost e ha hb hc hd =
+  fixed-owed e ha hb hc hd =
       ⊎-elim (λ (h : n ≡ 3). rw (ha, hb, hc, hd, h, ne-eqb free 1 e) (omega arith)) (λ (h : n ≡ 4). rw (ha, hb, hc, hd, h, ne-eqb free 1 e) (omega arith)) width

@@ -9,17 +9,17 @@ use native.Mathlib.Omega.{arith}
 use borrow.Author.Tests.{eq-eqb, ne-eqb, ltb-false, lt-ltb}
 use lib.Dec.{eqb, ltb}
 use lib.ListN.{length, getD}
-use Rattle.logic.specs.Rules.{both, pick, someBelow, countBelow}
+use Rattle.logic.specs.Rules.{both, pick, bit, someBelow, countBelow}
 use Rattle.logic.proofs.Counts.{count-split, count-more, not-some}
 use Rattle.gate.specs.Gates.{targetOf, gateOf}
 use Rattle.gate.specs.Inner.{columnStep}
 use Rattle.table.specs.Layouts.{Width, wireOf, layoutsFor}
-use Rattle.table.proofs.Layouts.{wire-within, wire-once, wire-fixed}
+use Rattle.table.proofs.Layouts.{wire-within, wire-fixed}
 use Rattle.columns.specs.declared.Wanted.{Wanted}
-use Rattle.columns.specs.Wanted.{fitting}
+use Rattle.columns.specs.Wanted.{fitting, dirt, tidy}
 use Rattle.columns.specs.Finish.{Finish}
-use Rattle.outputs.specs.Owed.{missed, alone, owed, mends, worth}
-use Rattle.outputs.proofs.Few.{missedOn, missed-kept, target-lt, alone-missed, missed-few, finish-next, first-lawful}
+use Rattle.outputs.specs.Owed.{missed, alone, owed, spoilt, due, mends, worth}
+use Rattle.outputs.proofs.Few.{missedOn, leftOn, missed-kept, tidy-kept, spoilt-step, one-on, target-lt, alone-missed, left-few, finish-next, first-lawful}
 
 second-fails : (a b : Bool) → both a b ≡ false → a ≡ true → b ≡ false
 second-fails a b h e = rw e at h
@@ -30,15 +30,16 @@ module _ (t : Wanted) (n free p : ℕ) (width : Width n) (m : List·Memᴰ p (la
   unfolding gateOf
   alone-kept j l h f = rw (missed-kept t (gateOf g) cs (wireOf p j) j f) (alone-missed t n free p width m cs (targetOf g) j l h f)
 
-  -- the gate mends one output at most
-  owed-step : gateOf g .target < 5 → owed t cs n free (targetOf g) ≤ countBelow n (missedOn t p (columnStep (gateOf g) cs)) + 1
-  unfolding owed gateOf
-  owed-step h =
+  -- the gate mends one output at most, or the ancilla
+  due-step : gateOf g .target < 5 → due t cs n free (targetOf g) ≤ leftOn t n p (columnStep (gateOf g) cs) + 1
+  unfolding due owed gateOf
+  due-step h =
       omega (
         arith,
         count-split (alone t cs n free (targetOf g)) (missedOn t p (columnStep (gateOf g) cs)) (λ j. eqb (wireOf p j) (targetOf g)) n
             (λ j l e. by-wire j l e (ℕ-discrete (wireOf p j) (targetOf g))),
-        wire-once n free p width m (targetOf g) h,
+        one-on t n free p width m (targetOf g) h,
+        spoilt-step (gateOf g) cs n,
       )
     where
       by-wire : (j : ℕ) → j < n → alone t cs n free (targetOf g) j ≡ true → Dec (wireOf p j ≡ targetOf g)
@@ -58,8 +59,11 @@ module _ (t : Wanted) (n free p : ℕ) (width : Width n) (m : List·Memᴰ p (la
       within : ltb (targetOf g) n ≡ true
       within = lt-ltb (targetOf g) n (rw (← s) (wire-within n free p width m j l))
 
+      not-ancilla : n ≡ targetOf g → ⊥
+      not-ancilla e = omega (arith, wire-within n free p width m j l)
+
       fails : pick (eqb free 1) (someBelow n (λ i. both (alone t cs n free (targetOf g) i) (fitting t column i))) (fitting t column (targetOf g)) ≡ false
-      fails = second-fails (ltb (targetOf g) n) _ h within
+      fails = second-fails (ltb (targetOf g) n) _ (rw (ne-eqb n (targetOf g) not-ancilla) at h) within
 
       unfit : fitting t column j ≡ false → missed t (columnStep (gateOf g) cs) (wireOf p j) j ≡ true
       unfit e = ap (λ w. missed t (columnStep (gateOf g) cs) w j) s ∙ ap not e
@@ -72,10 +76,28 @@ module _ (t : Wanted) (n free p : ℕ) (width : Width n) (m : List·Memᴰ p (la
           let k : j ≡ targetOf g = sym (wire-fixed n free p width m e j l) ∙ s in
           unfit (ap (fitting t column) k ∙ (rw (ne-eqb free 1 e) at fails))
 
-  owed-left : mends t cs n free (targetOf g) (getD (columnStep (gateOf g) cs) (targetOf g) 0) ≡ false
-      → owed t cs n free (targetOf g) ≤ countBelow n (missedOn t p (columnStep (gateOf g) cs))
-  unfolding owed
-  owed-left h = count-more (alone t cs n free (targetOf g)) (missedOn t p (columnStep (gateOf g) cs)) n (λ j l e. by-wire j l e (ℕ-discrete (wireOf p j) (targetOf g)))
+  -- nor the ancilla
+  spoilt-left : mends t cs n free (targetOf g) (getD (columnStep (gateOf g) cs) (targetOf g) 0) ≡ false
+      → bit (spoilt cs n (targetOf g)) ≤ bit (not (tidy n (columnStep (gateOf g) cs)))
+  unfolding mends gateOf
+  spoilt-left h = by-wire (ℕ-discrete n (targetOf g))
+    where
+      by-wire : Dec (n ≡ targetOf g) → bit (spoilt cs n (targetOf g)) ≤ bit (not (tidy n (columnStep (gateOf g) cs)))
+      by-wire (yes e) =
+          let d : tidy n (columnStep (gateOf g) cs) ≡ false
+          = ap (λ w. eqb (dirt n (getD (columnStep (gateOf g) cs) w 0)) 0) e ∙ (rw (eq-eqb n (targetOf g) e) at h) in
+          rw (d, eq-eqb n (targetOf g) e) (omega arith)
+      by-wire (no f) = rw (ne-eqb n (targetOf g) f, tidy-kept (gateOf g) cs n f) (omega arith)
+
+  due-left : mends t cs n free (targetOf g) (getD (columnStep (gateOf g) cs) (targetOf g) 0) ≡ false
+      → due t cs n free (targetOf g) ≤ leftOn t n p (columnStep (gateOf g) cs)
+  unfolding due owed
+  due-left h =
+      omega (
+        arith,
+        count-more (alone t cs n free (targetOf g)) (missedOn t p (columnStep (gateOf g) cs)) n (λ j l e. by-wire j l e (ℕ-discrete (wireOf p j) (targetOf g))),
+        spoilt-left h,
+      )
     where
       by-wire : (j : ℕ) → j < n → alone t cs n free (targetOf g) j ≡ true → Dec (wireOf p j ≡ targetOf g)
           → missed t (columnStep (gateOf g) cs) (wireOf p j) j ≡ true
@@ -85,18 +107,18 @@ module _ (t : Wanted) (n free p : ℕ) (width : Width n) (m : List·Memᴰ p (la
 pub worth-not : (k : ℕ) (t : Wanted) (n free : ℕ) (cs : List ℕ) (g : ℕ) (e : List ℕ) (p most : ℕ) → Finish k t n free cs (g ∷ e) p
     → worth t cs n free g most ≡ false → suc (length e) ≤ most → ⊥
 unfolding worth
-worth-not k t n free cs g e p most f u le = by-size (ℕ-discrete (owed t cs n free (targetOf g)) most)
+worth-not k t n free cs g e p most f u le = by-size (ℕ-discrete (due t cs n free (targetOf g)) most)
   where
-    few : countBelow n (missedOn t p (columnStep (gateOf g) cs)) ≤ length e
-    few = missed-few k t n free (columnStep (gateOf g) cs) e p (finish-next k t n free cs g e p f)
+    few : leftOn t n p (columnStep (gateOf g) cs) ≤ length e
+    few = left-few k t n free (columnStep (gateOf g) cs) e p (finish-next k t n free cs g e p f)
 
-    by-size : Dec (owed t cs n free (targetOf g) ≡ most) → ⊥
+    by-size : Dec (due t cs n free (targetOf g) ≡ most) → ⊥
     by-size (yes s) =
-        omega (arith, few, owed-left t n free p (f .width) (f .laid) cs g (rw (eq-eqb (owed t cs n free (targetOf g)) most s) at u))
+        omega (arith, few, due-left t n free p (f .width) (f .laid) cs g (rw (eq-eqb (due t cs n free (targetOf g)) most s) at u))
     by-size (no s) =
         omega (
           arith,
           few,
-          owed-step t n free p (f .width) (f .laid) cs g (target-lt k g (first-lawful k t n free cs g e p f)),
-          ltb-false (owed t cs n free (targetOf g)) most (rw (ne-eqb (owed t cs n free (targetOf g)) most s) at u),
+          due-step t n free p (f .width) (f .laid) cs g (target-lt k g (first-lawful k t n free cs g e p f)),
+          ltb-false (due t cs n free (targetOf g)) most (rw (ne-eqb (due t cs n free (targetOf g)) most s) at u),
         )

@@ -1,19 +1,19 @@
 -- A stuck node begins no way to finish with at most k more gates.
-use mathlib.Core.Path.{_≡_, sym, ap, _∙_}
+use mathlib.Core.Path.{_≡_, refl, sym, ap, _∙_}
 use mathlib.Core.Bool.{Bool, true, false, not, false≢true}
 use mathlib.Core.List.{List, [], _∷_, List·Memᴰ}
 use Prim.Native.Nat.{ℕ, _≤_, _<_}
 use native.Mathlib.Decide.{ℕ-discrete}
 use native.Mathlib.Omega.{arith}
-use borrow.Author.Tests.{eq-eqb, ne-eqb, eqb-false, ltb-true, le-leb, not-true}
-use lib.Bits.{bitAnd, bitXor}
+use borrow.Author.Tests.{eqb-true, eq-eqb, ne-eqb, eqb-false, ltb-true, le-leb, not-true}
+use lib.Bits.{bitAnd, bitXor, xor-zero-r}
 use lib.Count.{ones}
 use lib.Dec.{eqb}
 use lib.ListN.{length, getD}
 use lib.Seq.{getD-set-same}
-use Rattle.logic.specs.Rules.{both, pick, someBelow, countBelow}
+use Rattle.logic.specs.Rules.{both, either, pick, bit, someBelow}
 use Rattle.logic.specs.Bit.{bitOf}
-use Rattle.logic.proofs.Chain.{both-left, both-right, both-true}
+use Rattle.logic.proofs.Chain.{both-left, both-right, both-true, either-neither}
 use Rattle.logic.proofs.Counts.{count-more, some-at}
 use Rattle.logic.proofs.Xor.{xor-mends}
 use Rattle.gate.specs.Gates.{targetOf, maskOf, kindFor, lawful, gateOf}
@@ -22,10 +22,10 @@ use Rattle.gate.proofs.Widen.{parts}
 use Rattle.table.specs.Layouts.{Width, wireOf, layoutsFor}
 use Rattle.table.proofs.Layouts.{wire-within, wire-fixed}
 use Rattle.columns.specs.declared.Wanted.{Wanted}
-use Rattle.columns.specs.Wanted.{misses}
+use Rattle.columns.specs.Wanted.{misses, allRows, dirt, tidy}
 use Rattle.columns.specs.Finish.{Finish}
-use Rattle.outputs.specs.Owed.{missed, alone, owed, lost, product, mayControl, mendableOn, mendable, stuck}
-use Rattle.outputs.proofs.Few.{missedOn, missed-kept, alone-missed, not-four, missed-few, lost-few, finish-next, first-lawful}
+use Rattle.outputs.specs.Owed.{missed, alone, owed, lost, product, mayControl, mendableOn, mendable, cleanable, stuck}
+use Rattle.outputs.proofs.Few.{missedOn, leftOn, missed-kept, tidy-kept, alone-missed, not-four, left-few, lost-few, finish-next, first-lawful}
 
 module _ (t : Wanted) (n free p : ℕ) (width : Width n) (m : List·Memᴰ p (layoutsFor n free)) (cs : List ℕ) where
   mendable-at : (j : ℕ) → j < n → mendableOn t cs (wireOf p j) j ≡ true → mendable t cs n free ≡ true
@@ -66,19 +66,55 @@ module _ (t : Wanted) (n free p : ℕ) (width : Width n) (m : List·Memᴰ p (la
         by-wire (yes s) = by-right s (ℕ-discrete (misses t (getD (columnStep (gateOf g) cs) (wireOf p j) 0) j) 0)
         by-wire (no f) = rw (missed-kept t (gateOf g) cs (wireOf p j) j f) now
 
-    lost-left : mendable t cs n free ≡ false → lost t cs n free ≤ countBelow n (missedOn t p (columnStep (gateOf g) cs))
-    unfolding owed
-    lost-left u = count-more (alone t cs n free 4) (missedOn t p (columnStep (gateOf g) cs)) n (still-missed u)
+    -- a gate that puts the ancilla at 0 adds the rows in which it was not
+    gate-cleans : n ≡ targetOf g → not (tidy n cs) ≡ true → dirt n (getD (columnStep (gateOf g) cs) n 0) ≡ 0 → cleanable cs n ≡ true
+    unfolding cleanable dirt columnStep gateOf
+    gate-cleans e h z =
+        let q = parts 2 5 g hg in
+        let a = getD cs n 0 in
+        let f = firing (kindFor (ones (maskOf g)) (maskOf g)) cs in
+        let s = getD-set-same cs n (bitXor a f) 0 (omega (arith, q .target)) in
+        let x = rw (← e, s) at z in
+        let y = xor-mends (allRows n) a f 0 (ap (λ c. bitAnd c (allRows n)) (xor-zero-r (bitXor a f)) ∙ x)
+        ∙ ap (λ c. bitAnd c (allRows n)) (xor-zero-r a) in
+        let few = le-leb (ones (maskOf g)) 2 (q .few) in
+        let added : product cs (maskOf g) ≡ f = rw few in
+        let apart = rw (← e) at (q .apart) in
+        both-true h (some-at (λ m. both (mayControl n m) (eqb (bitAnd (product cs m) (allRows n)) (bitAnd a (allRows n)))) 32 (maskOf g) (q .mask)
+        (both-true (both-true few (eq-eqb (bitOf n (maskOf g)) 0 apart)) (eq-eqb _ _ (ap (λ x. bitAnd x (allRows n)) added ∙ y))))
 
--- where no gate mends an output, a way to finish has one gate more than outputs are missed
-one-more : (t : Wanted) (n free : ℕ) (cs e : List ℕ) (p : ℕ) → Finish 2 t n free cs e p → mendable t cs n free ≡ false → 0 < lost t cs n free
+    still-dirty : cleanable cs n ≡ false → bit (not (tidy n cs)) ≤ bit (not (tidy n (columnStep (gateOf g) cs)))
+    unfolding gateOf
+    still-dirty u = by-wire (ℕ-discrete n (targetOf g))
+      where
+        by-now : n ≡ targetOf g → (a b : Bool) → tidy n cs ≡ a → tidy n (columnStep (gateOf g) cs) ≡ b → bit (not a) ≤ bit (not b)
+        by-now e true b h k = omega arith
+        by-now e false false h k = omega arith
+        by-now e false true h k = absurd (false≢true (sym u ∙ gate-cleans e (ap not h) (eqb-true _ 0 k)))
+
+        by-wire : Dec (n ≡ targetOf g) → bit (not (tidy n cs)) ≤ bit (not (tidy n (columnStep (gateOf g) cs)))
+        by-wire (yes e) = by-now e (tidy n cs) (tidy n (columnStep (gateOf g) cs)) refl refl
+        by-wire (no f) = rw (tidy-kept (gateOf g) cs n f) (omega arith)
+
+    lost-left : either (cleanable cs n) (mendable t cs n free) ≡ false → lost t cs n free ≤ leftOn t n p (columnStep (gateOf g) cs)
+    unfolding lost owed
+    lost-left u =
+        let v = either-neither (cleanable cs n) (mendable t cs n free) u in
+        omega (
+          arith,
+          count-more (alone t cs n free 4) (missedOn t p (columnStep (gateOf g) cs)) n (still-missed (v .1)),
+          still-dirty (v .0),
+        )
+
+-- where no gate mends an output or the ancilla, a way to finish has one gate more than are missed
+one-more : (t : Wanted) (n free : ℕ) (cs e : List ℕ) (p : ℕ) → Finish 2 t n free cs e p → either (cleanable cs n) (mendable t cs n free) ≡ false → 0 < lost t cs n free
     → lost t cs n free < length e
 one-more t n free cs [] p f u h = omega (arith, lost-few 2 t n free cs [] p f)
 one-more t n free cs (g ∷ e) p f u h =
     omega (
       arith,
       lost-left t n free p (f .width) (f .laid) cs g (first-lawful 2 t n free cs g e p f) (f .five) u,
-      missed-few 2 t n free (columnStep (gateOf g) cs) e p (finish-next 2 t n free cs g e p f),
+      left-few 2 t n free (columnStep (gateOf g) cs) e p (finish-next 2 t n free cs g e p f),
     )
 
 pub stuck-none : (t : Wanted) (n free : ℕ) (cs e : List ℕ) (p most : ℕ) → Finish 2 t n free cs e p → stuck t cs n free most ≡ true → length e ≤ most → ⊥
@@ -86,7 +122,7 @@ unfolding stuck
 stuck-none t n free cs e p most f u le = by-size (ℕ-discrete (lost t cs n free) most)
   where
     some : Bool
-    some = mendable t cs n free
+    some = either (cleanable cs n) (mendable t cs n free)
 
     by-size : Dec (lost t cs n free ≡ most) → ⊥
     by-size (yes s) =

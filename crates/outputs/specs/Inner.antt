@@ -10,9 +10,9 @@ use Rattle.logic.specs.Rules.{both, either, pick, bit, someBelow}
 use Rattle.logic.specs.Lists.{keepOnly, numbersFrom}
 use Rattle.logic.specs.Bit.{bitOf}
 use Rattle.columns.specs.declared.Wanted.{Wanted}
-use Rattle.columns.specs.Wanted.{misses, fitting}
+use Rattle.columns.specs.Wanted.{misses, fitting, dirt}
 use Rattle.outputs.specs.declared.Plan.{Plan}
-use Rattle.outputs.specs.Owed.{alone, owed, lost, product}
+use Rattle.outputs.specs.Owed.{alone, spoilt, due, lost, product}
 
 -- the products of the masks of at most two wires, in the order of their masks: what a gate may add to its target
 unfoldable pub productsOf : List ℕ → List ℕ
@@ -37,10 +37,10 @@ unfoldable pub setOf : Wanted → List ℕ → ℕ → ℕ → ℕ → ℕ
 setOf t cs n free wire =
     aloneBit t cs n free wire 0 + 2 * aloneBit t cs n free wire 1 + 4 * aloneBit t cs n free wire 2 + 8 * aloneBit t cs n free wire 3
 
--- digit w of `sizes` is what is owed for target w, digit w of `sets` the outputs that are alone for it
+-- digit w of `sizes` is what is due for target w, digit w of `sets` the outputs that are alone for it
 unfoldable pub planOf : Wanted → List ℕ → ℕ → ℕ → Plan
 planOf t cs n free =
-    record { sets = digits (setOf t cs n free); sizes = digits (owed t cs n free); lost = lost t cs n free }
+    record { sets = digits (setOf t cs n free); sizes = digits (due t cs n free); lost = lost t cs n free }
 
 unfoldable pub hasOutput : List ℕ → ℕ → ℕ → Bool
 hasOutput table column j = eqb (bitAnd (bitXor column (getD table (32 + j) 0)) (getD table (36 + j) 0)) 0
@@ -54,7 +54,8 @@ hasOne table column set =
     either (hasIn table column set 3) (either (hasIn table column set 2) (either (hasIn table column set 1) (hasIn table column set 0)))
 
 unfoldable pub mendsBy : List ℕ → ℕ → ℕ → ℕ → ℕ → ℕ → Bool
-mendsBy table set n free w column = both (ltb w n) (pick (eqb free 1) (hasOne table column set) (hasOutput table column w))
+mendsBy table set n free w column =
+    pick (eqb n w) (eqb (dirt n column) 0) (both (ltb w n) (pick (eqb free 1) (hasOne table column set) (hasOutput table column w)))
 
 -- the data wires that have output j, a bit each
 unfoldable pub placesOf : Wanted → List ℕ → ℕ → ℕ → ℕ
@@ -70,13 +71,17 @@ spreadOf m = pick (eqb m 0) 69905 (pick (eqb m 1) 1 (pick (eqb m 2) 16 (pick (eq
 unfoldable pub spotsOf : Wanted → List ℕ → ℕ → ℕ → ℕ → ℕ
 spotsOf t cs n free j = digits (λ wire. aloneBit t cs n free wire j)
 
+-- the targets for which the ancilla is spoilt, a digit each
+unfoldable pub spoiltSpots : List ℕ → ℕ → ℕ
+spoiltSpots cs n = digits (λ wire. bit (spoilt cs n wire))
+
 -- the plan as the code puts it together
-abbrev pub packed : ℕ → ℕ → ℕ → ℕ → Plan
-packed a b c d = record { sets = a + 2 * b + 4 * c + 8 * d; sizes = a + b + c + d; lost = (a + b + c + d) / 65536 }
+abbrev pub packed : ℕ → ℕ → ℕ → ℕ → ℕ → ℕ → Plan
+packed a b c d e dirty = record { sets = a + 2 * b + 4 * c + 8 * d; sizes = a + b + c + d + e; lost = (a + b + c + d) / 65536 + dirty }
 
 -- the products of wires other than w, a bit each
 abbrev pub othersOf : ℕ → ℕ
-othersOf w = pick (eqb w 0) 61141 (pick (eqb w 1) 56755 (pick (eqb w 2) 48015 30847))
+othersOf w = pick (eqb w 0) 61141 (pick (eqb w 1) 56755 (pick (eqb w 2) 48015 (pick (eqb w 3) 30847 2047)))
 
 -- product i is allowed, and is what is wanted in the rows that care
 abbrev pub hitBit : ℕ → ℕ → ℕ → ℕ → ℕ → Bool

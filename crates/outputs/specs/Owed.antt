@@ -1,18 +1,18 @@
 -- Which outputs are owed, and which next gates can keep up with them. A gate changes one column, its target's: what the other wires miss it
--- leaves to later gates.
+-- leaves to later gates. The ancilla, wire n, owes a column of zeros.
 use mathlib.Core.Bool.{Bool, not}
 use mathlib.Core.List.{List}
-use Prim.Native.Nat.{ℕ}
+use Prim.Native.Nat.{ℕ, _+_}
 use lib.Bits.{bitAnd}
 use lib.Count.{ones}
 use lib.Dec.{eqb, ltb, leb}
 use lib.ListN.{getD}
-use Rattle.logic.specs.Rules.{both, either, pick, allBelow, someBelow, countBelow}
+use Rattle.logic.specs.Rules.{both, either, pick, bit, allBelow, someBelow, countBelow}
 use Rattle.logic.specs.Bit.{bitOf}
 use Rattle.gate.specs.Gates.{targetOf, kindFor, gateOf}
 use Rattle.gate.specs.Inner.{firing, columnStep}
 use Rattle.columns.specs.declared.Wanted.{Wanted}
-use Rattle.columns.specs.Wanted.{misses, fitting}
+use Rattle.columns.specs.Wanted.{misses, fitting, allRows, dirt, tidy}
 
 -- output j, were it on wire w, would miss a wanted bit of some row
 abbrev pub missed : Wanted → List ℕ → ℕ → ℕ → Bool
@@ -23,25 +23,35 @@ unfoldable pub alone : Wanted → List ℕ → ℕ → ℕ → ℕ → ℕ → B
 alone t cs n free wire j =
     pick (eqb free 1) (allBelow n (λ w. either (eqb w wire) (missed t cs w j))) (either (eqb j wire) (missed t cs j j))
 
--- how many gates a list has at least that begins with one of this target
+-- how many outputs are alone for a wire
 unfoldable pub owed : Wanted → List ℕ → ℕ → ℕ → ℕ → ℕ
 owed t cs n free wire = countBelow n (alone t cs n free wire)
 
--- how many outputs each allowed layout misses at least: what is owed whatever the target, since wire 4 is no data wire
-abbrev pub lost : Wanted → List ℕ → ℕ → ℕ → ℕ
-lost t cs n free = owed t cs n free 4
+-- the ancilla is not at 0, `wire` aside
+abbrev pub spoilt : List ℕ → ℕ → ℕ → Bool
+spoilt cs n wire = either (eqb n wire) (not (tidy n cs))
 
--- with this column, `wire` has an output that all other wires miss
+-- how many gates a list has at least that begins with one of this target
+unfoldable pub due : Wanted → List ℕ → ℕ → ℕ → ℕ → ℕ
+due t cs n free wire = owed t cs n free wire + bit (spoilt cs n wire)
+
+-- how many outputs each allowed layout misses at least (what is owed whatever the target, since wire 4 is no data wire), and the ancilla
+-- where it is not at 0
+unfoldable pub lost : Wanted → List ℕ → ℕ → ℕ → ℕ
+lost t cs n free = owed t cs n free 4 + bit (not (tidy n cs))
+
+-- with this column, `wire` has an output that all other wires miss, or is the ancilla at 0
 unfoldable pub mends : Wanted → List ℕ → ℕ → ℕ → ℕ → ℕ → Bool
 mends t cs n free wire column =
-    both (ltb wire n) (pick (eqb free 1) (someBelow n (λ j. both (alone t cs n free wire j) (fitting t column j))) (fitting t column wire))
+    pick (eqb n wire) (eqb (dirt n column) 0)
+    (both (ltb wire n) (pick (eqb free 1) (someBelow n (λ j. both (alone t cs n free wire j) (fitting t column j))) (fitting t column wire)))
 
 -- gate g can begin a list of at most k gates that realizes the table: where all k are owed, it must mend its target
 unfoldable pub worth : Wanted → List ℕ → ℕ → ℕ → ℕ → ℕ → Bool
 worth t cs n free g k =
-    pick (eqb (owed t cs n free (targetOf g)) k)
+    pick (eqb (due t cs n free (targetOf g)) k)
     (mends t cs n free (targetOf g) (getD (columnStep (gateOf g) cs) (targetOf g) 0))
-    (ltb (owed t cs n free (targetOf g)) k)
+    (ltb (due t cs n free (targetOf g)) k)
 
 -- the rows in which all wires of a mask are 1, for a mask of at most two wires
 abbrev pub product : List ℕ → ℕ → ℕ
@@ -60,7 +70,13 @@ mendableOn t cs w j =
 unfoldable pub mendable : Wanted → List ℕ → ℕ → ℕ → Bool
 mendable t cs n free = someBelow n (λ w. pick (eqb free 1) (someBelow n (mendableOn t cs w)) (mendableOn t cs w w))
 
--- no list of at most k gates goes on from these columns to the table: too many outputs are missed, or just as many and no gate mends one
+-- the ancilla is not at 0, and what some gate on it adds is 1 in just the rows in which it is not
+unfoldable pub cleanable : List ℕ → ℕ → Bool
+cleanable cs n =
+    both (not (tidy n cs)) (someBelow 32 (λ m. both (mayControl n m) (eqb (bitAnd (product cs m) (allRows n)) (dirt n (getD cs n 0)))))
+
+-- no list of at most k gates goes on from these columns to the table: too many outputs are missed, or just as many and no gate mends one,
+-- the ancilla counted in
 unfoldable pub stuck : Wanted → List ℕ → ℕ → ℕ → ℕ → Bool
 stuck t cs n free k =
-    pick (eqb (lost t cs n free) k) (both (not (eqb k 0)) (not (mendable t cs n free))) (ltb k (lost t cs n free))
+    pick (eqb (lost t cs n free) k) (both (not (eqb k 0)) (not (either (cleanable cs n) (mendable t cs n free)))) (ltb k (lost t cs n free))

@@ -1,4 +1,4 @@
-// Which outputs are owed, and which next gates can keep up with them: a gate changes its target's column only.
+// Which outputs are owed, and which next gates can keep up with them: a gate changes its target's column only. The ancilla owes zeros.
 use columns::Wanted;
 ghost use mathlib.Core.Path.{_≡_};
 ghost use mathlib.Core.Bool.{true};
@@ -11,11 +11,11 @@ ghost use Rattle.gate.specs.Gates.{targetOf, lawful, gateOf};
 ghost use Rattle.gate.specs.Inner.{columnStep};
 ghost use Rattle.table.specs.Layouts.{Width};
 ghost use Rattle.columns.specs.declared.Wanted.{Wanted};
-ghost use Rattle.columns.specs.Wanted.{fitting};
-ghost use Rattle.outputs.specs.Owed.{missed, lost, worth, mendable, stuck};
-ghost use Rattle.outputs.specs.Inner.{productsOf, tableOf, planOf, hasOutput, hasOne, mendsBy, placesOf, spreadOf, spotsOf, packed, othersOf, hitBit, hitsOf, rowHits, wireHits};
+ghost use Rattle.columns.specs.Wanted.{fitting, dirt, tidy};
+ghost use Rattle.outputs.specs.Owed.{missed, owed, lost, worth, mendable, cleanable, stuck};
+ghost use Rattle.outputs.specs.Inner.{productsOf, tableOf, planOf, hasOutput, hasOne, mendsBy, placesOf, spreadOf, spotsOf, spoiltSpots, packed, othersOf, hitBit, hitsOf, rowHits, wireHits};
 
-// What one look at a node says of all next gates: four bits a target, the outputs alone for it and how many they are.
+// What one look at a node says of all next gates: four bits a target, the outputs alone for it and how many they are, the ancilla counted in.
 pub struct Plan {
     pub sets: u32,
     pub sizes: u32,
@@ -149,14 +149,14 @@ fn has_one(table: &[u16], column: u16, set: u32) -> bool
     )
 }
 
-// Whether the target's new column has an output that all other wires miss.
+// Whether the target's new column has an output that all other wires miss, or is the ancilla's and 0.
 fn mends(table: &[u16], set: u32, n: usize, free: usize, w: usize, column: u16) -> bool
     requires { ⌜ length (now table) ≡ 40 ⌝ }
     requires { ⌜ Width n ⌝ }
     ensures { λ r. ⌜ r ≡ mendsBy (now (table .entry)) set n free w column ⌝ }
 {
     if n <= w {
-        return false;
+        return logic::both(n == w, columns::dirt(n, column) == 0);
     }
     if free == 1 {
         has_one(table, column, set)
@@ -247,30 +247,57 @@ fn fixed_spots(t: Wanted, columns: [u16; 5], n: usize, j: usize) -> u32
     }
 }
 
-fn pack(a: u32, b: u32, c: u32, d: u32) -> Plan
-    requires { ⌜ (a ≤ 69905) × ((b ≤ 69905) × ((c ≤ 69905) × (d ≤ 69905))) ⌝ }
-    ensures { λ r. ⌜ r ≡ packed a b c d ⌝ }
+// The rows in which the ancilla is not at 0, by a constant place, so that the columns need not stand in memory.
+fn spilt(n: usize, columns: [u16; 5]) -> u16
+    requires { ⌜ Width n ⌝ }
+    ensures { λ r. ⌜ r ≡ dirt n (getD columns n 0) ⌝ }
 {
-    let sizes = a + b + c + d;
-    Plan {
-        sets: a + 2 * b + 4 * c + 8 * d,
-        sizes,
-        lost: (sizes / 65536) as usize,
+    if n == 3 {
+        columns::dirt(3, columns[3])
+    } else {
+        columns::dirt(4, columns[4])
     }
 }
 
-// What the columns say of all next gates; `lost` is what every layout misses.
+// The targets for which the ancilla is spoilt: itself alone where it is at 0, else all of them.
+fn spoilt_spots(n: usize, clean: bool) -> u32
+    requires { ⌜ Width n ⌝ }
+    ensures { λ r. ⌜ ((cs : List ℕ) → clean ≡ tidy n cs → r ≡ spoiltSpots cs n) ⌝ }
+    ensures { λ r. ⌜ r ≤ 69905 ⌝ }
+{
+    if clean { 1 << (4 * n) } else { 0x11111 }
+}
+
+fn pack(a: u32, b: u32, c: u32, d: u32, e: u32, dirty: u32) -> Plan
+    requires { ⌜ (a ≤ 69905) × ((b ≤ 69905) × ((c ≤ 69905) × (d ≤ 69905))) ⌝ }
+    requires { ⌜ (e ≤ 69905) × (dirty ≤ 1) ⌝ }
+    ensures { λ r. ⌜ r ≡ packed a b c d e dirty ⌝ }
+{
+    let outputs = a + b + c + d;
+    Plan {
+        sets: a + 2 * b + 4 * c + 8 * d,
+        sizes: outputs + e,
+        lost: (outputs / 65536 + dirty) as usize,
+    }
+}
+
+// What the columns say of all next gates; `lost` is what every layout misses, the ancilla counted in.
 pub fn plan_of(t: Wanted, columns: [u16; 5], n: usize, free: usize) -> Plan
     requires { ⌜ Width n ⌝ }
     ensures { λ r. ⌜ r ≡ planOf t columns n free ⌝ }
     ensures { λ r. ⌜ r .lost ≡ lost t columns n free ⌝ }
 {
+    let clean = spilt(n, columns) == 0;
+    let spoilt = spoilt_spots(n, clean);
+    let unclean = one(!clean) as u32;
     if free == 1 {
         pack(
             free_spots(t, columns, n, 0),
             free_spots(t, columns, n, 1),
             free_spots(t, columns, n, 2),
             free_spots(t, columns, n, 3),
+            spoilt,
+            unclean,
         )
     } else {
         pack(
@@ -278,20 +305,23 @@ pub fn plan_of(t: Wanted, columns: [u16; 5], n: usize, free: usize) -> Plan
             fixed_spots(t, columns, n, 1),
             fixed_spots(t, columns, n, 2),
             fixed_spots(t, columns, n, 3),
+            spoilt,
+            unclean,
         )
     }
 }
 
 // The products of wires other than `w`, a bit each: what a gate on `w` may add.
 fn others(w: usize) -> u16
-    requires { ⌜ w < 4 ⌝ }
+    requires { ⌜ w < 5 ⌝ }
     ensures { λ r. ⌜ r ≡ othersOf w ⌝ }
 {
     match w {
         0 => 0xEED5,
         1 => 0xDDB3,
         2 => 0xBB8F,
-        _ => 0x787F,
+        3 => 0x787F,
+        _ => 0x07FF,
     }
 }
 
@@ -414,6 +444,30 @@ fn mendable(t: Wanted, columns: [u16; 5], n: usize, free: usize) -> u16
     }
 }
 
+// Whether the ancilla is not at 0 in some rows, `spilt`, and some product that a gate may add to it puts it there.
+fn cleanable(n: usize, columns: [u16; 5], spilt: u16) -> bool
+    requires { ⌜ Width n ⌝ }
+    requires { ⌜ spilt ≡ dirt n (getD columns n 0) ⌝ }
+    ensures { λ r. ⌜ r ≡ cleanable columns n ⌝ }
+{
+    if spilt == 0 {
+        return false;
+    }
+    row_hits(
+        products(columns),
+        [columns::all_rows(n), 0, 0, 0],
+        others(n),
+        spilt,
+        0,
+        0,
+        0,
+        0,
+        0,
+        0,
+    )
+        == 1
+}
+
 // 1 where a column misses output `j`.
 fn misses_one(t: Wanted, column: u16, j: usize) -> u16
     ensures { λ r. ⌜ ((cs : List ℕ) (w : ℕ) → column ≡ getD cs w 0 → r ≡ bit (missed t cs w j)) ⌝ }
@@ -441,9 +495,10 @@ fn sum(n: usize, a: u16, b: u16, c: u16, d: u16) -> usize
 }
 
 // How many outputs every allowed layout misses.
-fn lost(t: Wanted, columns: [u16; 5], n: usize, free: usize) -> usize
+fn missing(t: Wanted, columns: [u16; 5], n: usize, free: usize) -> usize
     requires { ⌜ Width n ⌝ }
-    ensures { λ r. ⌜ r ≡ lost t columns n free ⌝ }
+    ensures { λ r. ⌜ r ≡ owed t columns n free 4 ⌝ }
+    ensures { λ r. ⌜ r ≤ 4 ⌝ }
 {
     if free == 1 {
         sum(
@@ -469,11 +524,15 @@ pub fn stuck(t: Wanted, columns: [u16; 5], n: usize, free: usize, reach: usize) 
     requires { ⌜ Width n ⌝ }
     ensures { λ r. ⌜ r ≡ stuck t columns n free reach ⌝ }
 {
-    let least = lost(t, columns, n, free);
+    let dirt = spilt(n, columns);
+    let least = missing(t, columns, n, free) + one(dirt != 0) as usize;
     if least != reach {
         return reach < least;
     }
     if reach == 0 {
+        return false;
+    }
+    if cleanable(n, columns, dirt) {
         return false;
     }
     mendable(t, columns, n, free) == 0

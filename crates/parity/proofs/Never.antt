@@ -34,11 +34,11 @@ module _ (job : List ℕ) (sound : jobCode job ≡ 0) (four : dataWires job ≡ 
   care x hx = odd-full job is-odd x (omega (arith, sixteen)) ∙ ap (λ (n : ℕ). 2 ^ n - 1) four
 
   pub none-realizes : (gs : List ℕ) (p : ℕ) → allOf (lawful 2 4) gs ≡ true → p < 256 → layoutOk 4 p ≡ true
-      → realizes (rows job) p gs ≡ false
+      → realizes 4 (rows job) p gs ≡ false
   none-realizes gs p h hp ok =
-      not-so (realizes (rows job) p gs) (λ e.
+      not-so (realizes 4 (rows job) p gs) (λ e.
       never job is-odd gs p sixteen h hp ok (λ x hx j hj.
       bit-at p (getD (rows job) x 0) (forwards gs x) j
-      (rw (zero-add x) at (agrees-at p (forwards gs) (rows job) 0 x (realizes-agrees (rows job) p gs e) (omega (arith, sixteen))))
+      (rw (zero-add x) at (agrees-at p (forwards gs) (rows job) 0 x (realizes-agrees 4 (rows job) p gs e) (omega (arith, sixteen))))
       hj
       (ap (bitOf j) (care x hx) ∙ eqb-true (bitOf j 15) 1 (below 4 wantedBit refl j hj))))

@@ -34,6 +34,7 @@ verifyMeanings =
     (12 means "the circuit's wires are not those of the job")
     ∷ (15 means "the job allows the plain layout only")
     ∷ (16 means "the circuit does not realize the table")
+    ∷ (24 means "the ancilla does not end at 0 in every row")
     ∷ (17 means "the circuit has more gates than the gate limit")
     ∷ (18 means "the circuit costs more than the cost limit")
     ∷ (19 means "the circuit is deeper than the depth limit")

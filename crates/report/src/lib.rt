@@ -33,6 +33,7 @@ fn put_verify_meaning(out: &mut [u8], i: usize, code: u8) -> usize
         12 => put_text(out, i, b"the circuit's wires are not those of the job"),
         15 => put_text(out, i, b"the job allows the plain layout only"),
         16 => put_text(out, i, b"the circuit does not realize the table"),
+        24 => put_text(out, i, b"the ancilla does not end at 0 in every row"),
         17 => put_text(out, i, b"the circuit has more gates than the gate limit"),
         18 => put_text(out, i, b"the circuit costs more than the cost limit"),
         19 => put_text(out, i, b"the circuit is deeper than the depth limit"),

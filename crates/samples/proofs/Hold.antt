@@ -11,7 +11,7 @@ use Rattle.logic.specs.Lists.{allOf, total, along, back}
 use Rattle.gate.specs.Gates.{lawful, step, gateOf}
 use Rattle.circuit.specs.Measure.{weightOf, hold, greatest}
 use Rattle.table.specs.Layouts.{layoutOk, allowed, layoutsFor}
-use Rattle.table.specs.Rows.{rowOk, bitAgrees, rowAgrees, agreesFrom, realizes}
+use Rattle.table.specs.Rows.{rowOk, bitAgrees, rowAgrees, agreesFrom, clean, realizes}
 use Rattle.record.specs.Jobs.{dataWires, ancillas, wires, freeLayout, gateLimit, costLimit, depthLimit, prices, durations}
 use Rattle.record.specs.Jobs.{jobLengthOk, sizeOk, headOk, limitOk, durationsOk, rowsOk, jobCode}
 use Rattle.record.specs.Circuits.{layoutOf, countOf, circuitLengthOk, shapeOk, circuitCode, circuitBytes}
@@ -28,7 +28,7 @@ unfolding failing samples holds lawful step gateOf weightOf hold greatest total 
     gateLimit costLimit depthLimit prices durations layoutOf countOf circuitLengthOk shapeOk circuitCode layoutOk allowed bitAgrees
     rowAgrees agreesFrom runCode runOf measuresOf sameWires measureCode measureOf limitsCode verifyRest verifyCode verifyOf ones onesIn
     trailingZeros leadingZeros lexLess before keep attempt improve under choiceOf here within firstGood problemOf recordOf circuitBytes searchCode searchOf
-    layoutsFor realizes
+    layoutsFor clean realizes
 all-hold = refl
 
 -- the first row holds, and the others

@@ -185,6 +185,8 @@ samples =
     ∷ verifyRefused (anything 0 0 0) (0x68 ∷ 0x18 ∷ 0 ∷ []) 12  -- an ancilla for none
     ∷ verifyRefused (anything 0 0 0) (0x60 ∷ 0x48 ∷ 0 ∷ []) 15  -- a layout that is not the plain one
     ∷ verifyRefused (short 0x60 0 0 0 1 (two 0x11 0)) empty 16  -- row 0 wants bit 0 to be 1
+    ∷ verifyRefused (short 0x68 0 0 0 1 (two 0 0)) (0x68 ∷ 0x18 ∷ 1 ∷ 96 ∷ []) 24  -- 60 leaves the ancilla at 1, though no bit is wanted
+    ∷ passes (short 0x68 2 2 2 1 (two 0 0)) (0x68 ∷ 0x18 ∷ 2 ∷ 96 ∷ 96 ∷ []) 2 2 2 (0 ∷ 0 ∷ 0 ∷ 2 ∷ 0 ∷ [])  -- 60 60 puts it back
     ∷ passes (short 0x60 0 0 0 1 (two 0x10 0x11)) empty 0 0 0 (0 ∷ 0 ∷ 0 ∷ 0 ∷ 0 ∷ [])
     ∷ verifyRefused (anything 0 1 1) oneNot 17
     ∷ verifyRefused (anything 1 0 1) oneNot 18

@@ -121,7 +121,7 @@ module _ (job : List ℕ) (sound : jobCode job ≡ 0) where
         let a = s .admitted in
         let ok = allowed-ok (dataWires job) (freeLayout job) p (sound-job job sound .width) (a .layout-listed) in
         let kept = rw four-wires at (among-lawful 2 (wires job) l (a .gates-listed)) in
-        true≢false (sym (s .realizing) ∙ none-realizes job sound four is-odd l p kept (ok .0) (rw four at (ok .1)))
+        true≢false (sym (rw four at (s .realizing)) ∙ none-realizes job sound four is-odd l p kept (ok .0) (rw four at (ok .1)))
 
     pub odd-none : (room : ℕ) → 15 ≤ room → searchOf job room ≡ refused 14
     odd-none room wide = none-is room wide .1 unsolved

@@ -1,5 +1,5 @@
 -- What the search hands to the solver poses the job's problem.
-use mathlib.Core.Path.{_≡_, refl, sym, ap, _∙_, subst}
+use mathlib.Core.Path.{_≡_, refl, sym, ap, ap₂, _∙_, subst}
 use mathlib.Core.Bool.{true}
 use mathlib.Core.Logic.{⊎-elim}
 use mathlib.Core.List.{List, List·Memᴰ}
@@ -7,8 +7,8 @@ use Prim.Native.Nat.{ℕ, _^_, _≤_, _<_}
 use native.Mathlib.Omega.{arith}
 use lib.ListN.{length, getD, take}
 use lib.Seq.{length-take-le, getD-take}
+use Rattle.logic.specs.Rules.{both}
 use Rattle.logic.specs.Lists.{Among}
-use Rattle.logic.proofs.Counts.{same-truth}
 use Rattle.logic.proofs.Members.{member-at, among-all}
 use Rattle.gate.specs.Gates.{lawful, gatesFor}
 use Rattle.gate.proofs.Tables.{gate-is}
@@ -18,11 +18,10 @@ use Rattle.circuit.specs.Measure.{weightOf}
 use Rattle.circuit.specs.Inner.{columnsAfter}
 use Rattle.table.specs.Layouts.{Width}
 use Rattle.table.specs.Rows.{realizes}
-use Rattle.table.proofs.Rows.{realizes-agrees, agrees-realizes}
 use Rattle.record.specs.Jobs.{dataWires, wires, prices, durations, rows, jobCode}
 use Rattle.record.proofs.Kept.{sound-job, wires-within}
-use Rattle.columns.specs.Wanted.{wantedOf, columnsOf, startColumns, met}
-use Rattle.columns.proofs.Agreement.{met-agrees}
+use Rattle.columns.specs.Wanted.{wantedOf, columnsOf, startColumns, reached}
+use Rattle.columns.proofs.Agreement.{met-agrees, tidy-clean}
 use Rattle.solver.specs.declared.Task.{Task}
 use Rattle.solver.specs.States.{Slices, Asks, Posed, Limited}
 use Rattle.search.specs.Outcomes.{problemOf}
@@ -43,12 +42,11 @@ module _ (job : List ℕ) (sound : jobCode job ≡ 0) where
 
   -- the test of columns is the test of rows
   columned : (p : ℕ) (l : List ℕ) → Among (gatesFor 2 (wires job)) l
-      → realizes (rows job) p l ≡ met (wantedOf (rows job)) (columnsAfter l startColumns) p
+      → realizes (dataWires job) (rows job) p l ≡ reached (wantedOf (rows job)) (dataWires job) (columnsAfter l startColumns) p
+  unfolding realizes
   columned p l a =
-      let e = met-agrees (rows job) l rows-few (among-all (lawful 2 5) (gatesFor 2 (wires job)) l known a) p in
-      same-truth (realizes (rows job) p l) (met (wantedOf (rows job)) (columnsAfter l startColumns) p)
-      (λ t. e ∙ realizes-agrees (rows job) p l t)
-      (λ t. agrees-realizes (rows job) p l (sym e ∙ t))
+      let h = among-all (lawful 2 5) (gatesFor 2 (wires job)) l known a in
+      sym (ap₂ both (met-agrees (rows job) l rows-few h p) (tidy-clean l h (dataWires job) (sound-job job sound .width)))
 
 -- each of the gates has its weight in a table
 abbrev Weighs : Weights → List ℕ → List ℕ → Type 0

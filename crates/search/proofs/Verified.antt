@@ -75,7 +75,7 @@ module _ (job : List ℕ) (sound : jobCode job ≡ 0) where
         same-data = sym same-data;
         same-ancillas = sym same-ancillas;
         laid-out = ap (allowed (dataWires job) (freeLayout job)) same-layout ∙ admitted-is job sound l p .0 (s .admitted) .1 .1 .0;
-        realized = ap₂ (realizes (rows job)) same-layout same-gates ∙ s .realizing;
+        realized = ap₂ (realizes (dataWires job) (rows job)) same-layout same-gates ∙ s .realizing;
         gates-within = rw same-gates (s .admitted .gates-within);
         cost-within = rw same-gates (s .cost-within);
         depth-within = rw same-gates (s .depth-within);

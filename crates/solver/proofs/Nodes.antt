@@ -12,6 +12,7 @@ use lib.ListN.{length, getD, take, set, length-set}
 use lib.Seq.{length-take-le, take-suc, take-suc-set}
 use Rattle.logic.specs.Rules.{both}
 use Rattle.logic.specs.Lists.{along, total, Among}
+use Rattle.logic.proofs.Chain.{both-left, both-right}
 use Rattle.logic.proofs.Fold.{along-append, total-append}
 use Rattle.logic.proofs.Members.{among-nil, among-cons, among-append, among-all}
 use Rattle.gate.specs.Gates.{lawful, gateOf}
@@ -20,7 +21,7 @@ use Rattle.circuit.specs.Measure.{cost, depth, greatest, hold, holdByte, idle, 
 use Rattle.circuit.specs.Inner.{columnsOver, columnsAfter}
 use Rattle.circuit.proofs.Reversal.{columns-length}
 use Rattle.table.specs.Layouts.{layoutsFor}
-use Rattle.columns.specs.Wanted.{startColumns, met}
+use Rattle.columns.specs.Wanted.{startColumns, met, tidy, reached}
 use Rattle.columns.specs.Finish.{Finish}
 use Rattle.choice.specs.declared.Best.{Best}
 use Rattle.choice.specs.Choices.{Choice, keep, attempt, improve}
@@ -36,6 +37,12 @@ use Rattle.solver.specs.declared.Entry.{Entry}
 use Rattle.solver.specs.States.{listOf, Needs, Asks, At, Lists, Follows}
 
 module _ (P : Problem) (task : Task) (asks : Asks P task) (l cs : List ℕ) (kept : Among (P .gates) l) (columned : cs ≡ columnsAfter l startColumns) where
+  -- the columns at the end of a list that goes on to what is asked for
+  ends-reached : (e : List ℕ) (p : ℕ) → Among (P .gates) e → P .realized p (l ++ e) ≡ true → reached (task .wanted) (task .outputs) (columnsAfter e cs) p ≡ true
+  ends-reached e p among r =
+      ap (λ (c : List ℕ). reached (task .wanted) (task .outputs) c p) (ap (columnsAfter e) columned ∙ sym (along-append columnsOver l e startColumns))
+      ∙ sym (asks .table p (l ++ e) (among-append l e kept among)) ∙ r
+
   -- a list that goes on to what is asked for is a way to finish from these columns
   pub finish-of : (e : List ℕ) (p : ℕ) → Among (P .gates) e → List·Memᴰ p (P .layouts) → P .realized p (l ++ e) ≡ true
       → Finish 2 (task .wanted) (task .outputs) (task .free) cs e p
@@ -46,9 +53,8 @@ module _ (P : Problem) (task : Task) (asks : Asks P task) (l cs : List ℕ) (kep
     five = ap length columned ∙ columns-length l startColumns;
     kept = among-all (lawful 2 5) (P .gates) e (asks .kinds) among;
     laid = rw (asks .laid) at m;
-    meets =
-        ap (λ (c : List ℕ). met (task .wanted) c p) (ap (columnsAfter e) columned ∙ sym (along-append columnsOver l e startColumns))
-        ∙ sym (asks .table p (l ++ e) (among-append l e kept among)) ∙ r;
+    meets = both-left (met (task .wanted) (columnsAfter e cs) p) (tidy (task .outputs) (columnsAfter e cs)) (ends-reached e p among r);
+    tidied = both-right (met (task .wanted) (columnsAfter e cs) p) (tidy (task .outputs) (columnsAfter e cs)) (ends-reached e p among r);
   }
 
   -- the outputs that no sum of the columns gives want a heavy gate each
@@ -123,12 +129,12 @@ five-columns P s at = ap length (at .columned) ∙ columns-length (listOf s) sta
 
 -- the tests of a node are those of the choice, and what is offered is that choice
 module _ (P : Problem) (task : Task) (s : Node) (asks : Asks P task) (at : At P s) (p : ℕ) where
-  pub good-is : both (met (task .wanted) (s .columns) p) (both (leb (s .cost) (task .«cost_limit»)) (leb (greatest (s .times)) (task .«depth_limit»)))
+  pub good-is : both (reached (task .wanted) (task .outputs) (s .columns) p) (both (leb (s .cost) (task .«cost_limit»)) (leb (greatest (s .times)) (task .«depth_limit»)))
       ≡ within P (task .«cost_limit») (choiceOf P (listOf s) p)
   unfolding within choiceOf
   good-is =
       ap₂ both
-      (ap (λ (c : List ℕ). met (task .wanted) c p) (at .columned) ∙ sym (asks .table p (listOf s) (at .kept)))
+      (ap (λ (c : List ℕ). reached (task .wanted) (task .outputs) c p) (at .columned) ∙ sym (asks .table p (listOf s) (at .kept)))
       (ap₂ both (ap (λ (c : ℕ). leb c (task .«cost_limit»)) (at .paid)) (ap₂ leb (ap greatest (at .timed)) (asks .deep)))
 
   pub mine-is : (b : Best) → b .cost ≡ s .cost → b .depth ≡ greatest (s .times) → b .layout ≡ p → b .len ≡ s .len → b .path ≡ s .path

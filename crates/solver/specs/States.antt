@@ -11,7 +11,7 @@ use Rattle.gate.specs.Gates.{lawful}
 use Rattle.circuit.specs.Measure.{cost, readyTimes}
 use Rattle.circuit.specs.Inner.{columnsAfter}
 use Rattle.table.specs.Layouts.{Width, layoutsFor}
-use Rattle.columns.specs.Wanted.{startColumns, met}
+use Rattle.columns.specs.Wanted.{startColumns, reached}
 use Rattle.choice.specs.Choices.{Choice}
 use Rattle.problem.specs.Problems.{Problem}
 use Rattle.choice.specs.declared.Best.{Best}
@@ -56,7 +56,7 @@ pub record Asks (P : Problem) (task : Task) : Type 0 where
   pub wide : Width (task .outputs)
   pub four : length (task .wanted .care) ≡ 4
   pub laid : P .layouts ≡ layoutsFor (task .outputs) (task .free)
-  pub table : (p : ℕ) (l : List ℕ) → Among (P .gates) l → P .realized p l ≡ met (task .wanted) (columnsAfter l startColumns) p
+  pub table : (p : ℕ) (l : List ℕ) → Among (P .gates) l → P .realized p l ≡ reached (task .wanted) (task .outputs) (columnsAfter l startColumns) p
   pub deep : task .«depth_limit» ≡ P .mostDepth
   pub kinds : (g : ℕ) → List·Memᴰ g (P .gates) → lawful 2 5 g ≡ true
 

@@ -71,7 +71,7 @@ fn try_layout(task: Task, s: Node, p: u8, best: Best) -> Best
         s.cost as usize <= task.cost_limit,
         depth as usize <= task.depth_limit,
     );
-    if !logic::both(columns::met(wanted, columns, p), cheap) {
+    if !logic::both(columns::reached(wanted, task.outputs, columns, p), cheap) {
         return best;
     }
     let path = s.path;

@@ -1,22 +1,26 @@
 -- The table test by what is left of it: one row, then the rest; nothing at the end.
 use mathlib.Core.Path.{_≡_, refl, sym, ap, _∙_, subst}
 use mathlib.Core.List.{[], _∷_, List}
-use mathlib.Core.Bool.{Bool, true}
-use Prim.Native.Nat.{zero, suc, ℕ, _+_, _≤_, _<_}
-use native.Mathlib.Nat.{not-suc-le-zero, le-of-suc-le-suc, add-zero, add-suc, suc-add}
+use mathlib.Core.Bool.{Bool, true, false}
+use Prim.Native.Nat.{zero, suc, ℕ, _+_, _%_, _^_, _≤_, _<_}
+use native.Mathlib.Nat.{not-suc-le-zero, le-of-suc-le-suc, add-zero, add-suc, suc-add, div-eq-of-lt}
 use native.Mathlib.Numerals.{add-one}
 use native.Mathlib.Omega.{arith}
 use borrow.Author.Tests.{eqb-true, eq-eqb}
 use lib.Dec.{eqb}
 use lib.ListN.{length, getD, drop, drop-of-length-le}
 use lib.Seq.{drop-cons}
-use Rattle.logic.specs.Rules.{both}
+use Rattle.logic.specs.Rules.{both, allBelow}
+use Rattle.logic.specs.Lists.{allOf}
 use Rattle.logic.specs.Bit.{bitOf}
-use Rattle.logic.proofs.Chain.{both-left, both-right, both-true, implied}
+use Rattle.logic.proofs.Chain.{both-left, both-right, both-true, not-so, implied}
 use Rattle.logic.proofs.Below.{below}
+use Rattle.logic.proofs.Counts.{same-truth, all-below}
+use Rattle.gate.specs.Gates.{lawful}
 use Rattle.circuit.specs.Run.{forwards}
+use Rattle.circuit.proofs.Reversal.{stays}
 use Rattle.table.specs.Layouts.{wireOf}
-use Rattle.table.specs.Rows.{careOf, valueOf, bitAgrees, rowAgrees, agreesFrom, agrees, realizes}
+use Rattle.table.specs.Rows.{careOf, valueOf, bitAgrees, rowAgrees, agreesFrom, agrees, atZero, clean, realizes}
 
 module _ (p : ℕ) (ends : ℕ → ℕ) (table : List ℕ) (x : ℕ) where
   pub rows-turn : (t : Bool) → x < length table → rowAgrees p (getD table x 0) (ends x) ≡ t
@@ -57,12 +61,42 @@ agrees-all p ends x (row ∷ table) h =
     (agrees-all p ends (suc x) table
     (λ i l. let e : suc x + i ≡ x + suc i = omega arith in ap (λ n. rowAgrees p (getD table i 0) (ends n)) e ∙ h (suc i) (omega arith)))
 
--- a list that realizes the rows agrees with them, and today agreeing is all that is asked
-module _ (rows : List ℕ) (p : ℕ) (gs : List ℕ) where
-  pub realizes-agrees : realizes rows p gs ≡ true → agrees p (forwards gs) rows ≡ true
-  unfolding realizes
-  realizes-agrees h = h
+-- the rows below x leave the ancilla at 0: one row more, a row that does not, and all of them
+module _ (n : ℕ) (ends : ℕ → ℕ) (x : ℕ) where
+  pub clean-turn : allBelow x (atZero n ends) ≡ true → bitOf n (ends x) ≡ 0 → allBelow (x + 1) (atZero n ends) ≡ true
+  clean-turn h e = rw add-one (both-true (eq-eqb (bitOf n (ends x)) 0 e) h)
 
-  pub agrees-realizes : agrees p (forwards gs) rows ≡ true → realizes rows p gs ≡ true
+  pub clean-stop : x < 2 ^ n → (bitOf n (ends x) ≡ 0 → ⊥) → false ≡ clean n ends
+  unfolding clean
+  clean-stop l f = sym (not-so (clean n ends) (λ h. f (eqb-true (bitOf n (ends x)) 0 (below (2 ^ n) (atZero n ends) h x l))))
+
+  pub clean-done : x ≡ 2 ^ n → allBelow x (atZero n ends) ≡ true → true ≡ clean n ends
+  unfolding clean
+  clean-done e h = sym (ap (λ k. allBelow k (atZero n ends)) (sym e) ∙ h)
+
+-- a list that realizes the rows agrees with them and is clean, and that is all that is asked
+module _ (n : ℕ) (rows : List ℕ) (p : ℕ) (gs : List ℕ) where
+  pub realizes-agrees : realizes n rows p gs ≡ true → agrees p (forwards gs) rows ≡ true
   unfolding realizes
-  agrees-realizes h = h
+  realizes-agrees h = both-left (agrees p (forwards gs) rows) (clean n (forwards gs)) h
+
+  pub realizes-clean : realizes n rows p gs ≡ true → clean n (forwards gs) ≡ true
+  unfolding realizes
+  realizes-clean h = both-right (agrees p (forwards gs) rows) (clean n (forwards gs)) h
+
+  pub agrees-realizes : agrees p (forwards gs) rows ≡ true → clean n (forwards gs) ≡ true → realizes n rows p gs ≡ true
+  unfolding realizes
+  agrees-realizes h c = both-true h c
+
+-- without an ancilla no gate is on wire n, so that every list is clean: there to realize a table is to agree with it
+module _ (k n : ℕ) (gs : List ℕ) (bare : allOf (lawful k n) gs ≡ true) where
+  pub bare-clean : clean n (forwards gs) ≡ true
+  unfolding clean
+  bare-clean =
+      all-below (atZero n (forwards gs)) (2 ^ n)
+      (λ x l. eq-eqb (bitOf n (forwards gs x)) 0 (ap (λ v. v % 2) (div-eq-of-lt (stays k n gs x bare l))))
+
+  pub bare-realizes : (rows : List ℕ) (p : ℕ) → realizes n rows p gs ≡ agrees p (forwards gs) rows
+  bare-realizes rows p =
+      same-truth (realizes n rows p gs) (agrees p (forwards gs) rows) (realizes-agrees n rows p gs)
+      (λ h. agrees-realizes n rows p gs h bare-clean)

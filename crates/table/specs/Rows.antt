@@ -1,4 +1,4 @@
--- What a table asks for, row by row, and when a gate list and a layout realize it (document 01: meet it): for a list of any length.
+-- What a table asks for, row by row, and when a gate list and a layout realize it (documents 01 and 02: meet it): for a list of any length.
 use mathlib.Core.Bool.{Bool, true}
 use mathlib.Core.List.{List, [], _∷_}
 use Prim.Native.Nat.{ℕ, suc, _/_, _%_, _^_}
@@ -35,6 +35,13 @@ agreesFrom p ends x (row ∷ rows) = both (rowAgrees p row (ends x)) (agreesFrom
 abbrev pub agrees : ℕ → (ℕ → ℕ) → List ℕ → Bool
 agrees p ends rows = agreesFrom p ends 0 rows
 
--- document 01's "meets": row x starts with the value x
-unfoldable pub realizes : List ℕ → ℕ → List ℕ → Bool
-realizes rows p gs = agrees p (forwards gs) rows
+-- "the ancilla also ends at 0 for every row, unwanted rows included": the ancilla is wire n, and there are 2^n rows
+abbrev pub atZero : ℕ → (ℕ → ℕ) → ℕ → Bool
+atZero n ends x = eqb (bitOf n (ends x)) 0
+
+unfoldable pub clean : ℕ → (ℕ → ℕ) → Bool
+clean n ends = allBelow (2 ^ n) (atZero n ends)
+
+-- "meets" a table of n outputs: row x starts with the value x
+unfoldable pub realizes : ℕ → List ℕ → ℕ → List ℕ → Bool
+realizes n rows p gs = both (agrees p (forwards gs) rows) (clean n (forwards gs))

@@ -1,11 +1,11 @@
-// What a table asks for: rows of a care mask and a value, the final layouts, and whether a gate list agrees with the rows.
+// What a table asks for: rows of a care mask and a value, the final layouts, and whether a gate list agrees with the rows and leaves the ancilla at 0.
 ghost use mathlib.Core.Path.{_≡_};
 ghost use Prim.Native.Nat.{_<_};
 ghost use lib.ListN.{length, getD};
 ghost use Rattle.logic.specs.Lists.{allOf};
 ghost use Rattle.circuit.specs.Run.{forwards};
 ghost use Rattle.table.specs.Layouts.{Width, layoutOk, layoutsFor, allowed};
-ghost use Rattle.table.specs.Rows.{rowOk, bitAgrees, rowAgrees, agrees};
+ghost use Rattle.table.specs.Rows.{rowOk, bitAgrees, rowAgrees, agrees, clean};
 
 // The layouts of three and of four outputs, in rising order.
 const LAYOUTS3: [u8; 6] = [0x18, 0x24, 0x48, 0x60, 0x84, 0x90];
@@ -152,6 +152,21 @@ pub fn agrees(p: u8, list: &[u8], rows: &[u8]) -> bool
     let mut x = 0;
     while x < rows.len() {
         if !row_agrees(p, rows[x], circuit::forwards(list, x)) {
+            return false;
+        }
+        x += 1;
+    }
+    true
+}
+
+// Whether wire `n`, the ancilla, ends at 0 for every row of `n` data wires.
+pub fn clean(n: usize, list: &[u8]) -> bool
+    requires { ⌜ n < 64 ⌝ }
+    ensures { λ r. ⌜ r ≡ clean n (forwards (now (list .entry))) ⌝ }
+{
+    let mut x = 0;
+    while x < (1 << n) {
+        if (circuit::forwards(list, x) >> n) % 2 != 0 {
             return false;
         }
         x += 1;

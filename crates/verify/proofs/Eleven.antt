@@ -11,7 +11,7 @@ use Rattle.logic.proofs.Answers.{refused-is}
 use Rattle.logic.proofs.Chain.{rule-never, and-then-never}
 use Rattle.circuit.specs.Run.{forwards, backwards}
 use Rattle.table.specs.Layouts.{allowed}
-use Rattle.table.specs.Rows.{agrees}
+use Rattle.table.specs.Rows.{agrees, clean}
 use Rattle.record.specs.Jobs.{dataWires, wires, freeLayout, gateLimit, costLimit, depthLimit, rows, jobCode}
 use Rattle.record.specs.Circuits.{layoutOf, gates, circuitCode}
 use Rattle.record.proofs.Eleven.{circuit-never, job-never}
@@ -43,7 +43,8 @@ module _ (job c : List ℕ) where
   unfolding verifyRest
   rest-never =
       rule-never 11 (allowed (dataWires job) (freeLayout job) (layoutOf c)) 15 _ (λ e. omega arith)
-      (rule-never 11 (agrees (layoutOf c) (forwards (gates c)) (rows job)) 16 _ (λ e. omega arith) limits-never)
+      (rule-never 11 (agrees (layoutOf c) (forwards (gates c)) (rows job)) 16 _ (λ e. omega arith)
+      (rule-never 11 (clean (dataWires job) (forwards (gates c))) 24 _ (λ e. omega arith) limits-never))
 
   pub measure-never : measureOf job c ≡ refused 11 → ⊥
   unfolding measureOf

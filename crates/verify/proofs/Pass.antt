@@ -13,8 +13,8 @@ use Rattle.logic.proofs.Chain.{both-left, both-right, rule-kept, and-then-zero}
 use Rattle.circuit.specs.Run.{forwards}
 use Rattle.circuit.specs.Measure.{cost, depth}
 use Rattle.table.specs.Layouts.{allowed}
-use Rattle.table.specs.Rows.{agrees}
-use Rattle.table.proofs.Rows.{realizes-agrees, agrees-realizes}
+use Rattle.table.specs.Rows.{agrees, clean}
+use Rattle.table.proofs.Rows.{realizes-agrees, realizes-clean, agrees-realizes}
 use Rattle.record.specs.Jobs.{dataWires, ancillas, freeLayout, gateLimit, costLimit, depthLimit, priceOf, durationOf, rows}
 use Rattle.record.specs.Circuits.{layoutOf, gates}
 use Rattle.verify.specs.declared.Measures.{Measures}
@@ -30,9 +30,10 @@ module _ (job c : List ℕ) where
       let m = measure-parts job c (p .0) in
       let k₁ = rule-kept (allowed (dataWires job) (freeLayout job) (layoutOf c)) 15 _ (lit< tt) (p .1) in
       let k₂ = rule-kept (agrees (layoutOf c) (forwards (gates c)) (rows job)) 16 _ (lit< tt) (k₁ .1) in
-      let k₃ = rule-kept (leb (length (gates c)) (gateLimit job)) 17 _ (lit< tt) (k₂ .1) in
-      let k₄ = rule-kept (leb (cost (priceOf job) (gates c)) (costLimit job)) 18 _ (lit< tt) (k₃ .1) in
-      let k₅ = rule-kept (leb (depth (durationOf job) (gates c)) (depthLimit job)) 19 0 (lit< tt) (k₄ .1) in
+      let k₃ = rule-kept (clean (dataWires job) (forwards (gates c))) 24 _ (lit< tt) (k₂ .1) in
+      let k₄ = rule-kept (leb (length (gates c)) (gateLimit job)) 17 _ (lit< tt) (k₃ .1) in
+      let k₅ = rule-kept (leb (cost (priceOf job) (gates c)) (costLimit job)) 18 _ (lit< tt) (k₄ .1) in
+      let k₆ = rule-kept (leb (depth (durationOf job) (gates c)) (depthLimit job)) 19 0 (lit< tt) (k₅ .1) in
       let n = eqb (dataWires job) (dataWires c) in
       let a = eqb (ancillas job) (ancillas c) in
       record {
@@ -41,10 +42,10 @@ module _ (job c : List ℕ) where
         same-data = eqb-true (dataWires job) (dataWires c) (both-left n a (m .1 .1));
         same-ancillas = eqb-true (ancillas job) (ancillas c) (both-right n a (m .1 .1));
         laid-out = k₁ .0;
-        realized = agrees-realizes (rows job) (layoutOf c) (gates c) (k₂ .0);
-        gates-within = leb-true (length (gates c)) (gateLimit job) (k₃ .0);
-        cost-within = leb-true (cost (priceOf job) (gates c)) (costLimit job) (k₄ .0);
-        depth-within = leb-true (depth (durationOf job) (gates c)) (depthLimit job) (k₅ .0);
+        realized = agrees-realizes (dataWires job) (rows job) (layoutOf c) (gates c) (k₂ .0) (k₃ .0);
+        gates-within = leb-true (length (gates c)) (gateLimit job) (k₄ .0);
+        cost-within = leb-true (cost (priceOf job) (gates c)) (costLimit job) (k₅ .0);
+        depth-within = leb-true (depth (durationOf job) (gates c)) (depthLimit job) (k₆ .0);
       }
 
   pub passes-code : Passes job c → verifyCode job c ≡ 0
@@ -56,7 +57,8 @@ module _ (job c : List ℕ) where
         eq-eqb (dataWires job) (dataWires c) (s .same-data),
         eq-eqb (ancillas job) (ancillas c) (s .same-ancillas),
         s .laid-out,
-        realizes-agrees (rows job) (layoutOf c) (gates c) (s .realized),
+        realizes-agrees (dataWires job) (rows job) (layoutOf c) (gates c) (s .realized),
+        realizes-clean (dataWires job) (rows job) (layoutOf c) (gates c) (s .realized),
         le-leb (length (gates c)) (gateLimit job) (s .gates-within),
         le-leb (cost (priceOf job) (gates c)) (costLimit job) (s .cost-within),
         le-leb (depth (durationOf job) (gates c)) (depthLimit job) (s .depth-within),

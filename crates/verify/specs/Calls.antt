@@ -9,7 +9,7 @@ use Rattle.logic.specs.Answers.{Answer, refused, answered, answerOf}
 use Rattle.circuit.specs.Run.{forwards, backwards}
 use Rattle.circuit.specs.Measure.{cost, readyTimes, greatest}
 use Rattle.table.specs.Layouts.{allowed}
-use Rattle.table.specs.Rows.{agrees}
+use Rattle.table.specs.Rows.{agrees, clean}
 use Rattle.record.specs.Jobs.{dataWires, ancillas, wires, freeLayout, gateLimit, costLimit, depthLimit, priceOf, durationOf, rows, jobCode}
 use Rattle.record.specs.Circuits.{layoutOf, gates, circuitCode}
 use Rattle.verify.specs.declared.Measures.{Measures}
@@ -87,12 +87,13 @@ limitRules m mostGates mostCost mostDepth =
 unfoldable pub limitsCode : List ℕ → List ℕ → ℕ
 limitsCode job c = limitRules (measuresFor job c) (gateLimit job) (costLimit job) (depthLimit job)
 
--- "Placing allowed? If not, 15. Table met? If not, 16."
+-- "Placing allowed? If not, 15. Table met? If not, 16." That keeps to the wanted bits. "24 in judging, ancilla not at 0, directly after 16"
 unfoldable pub verifyRest : List ℕ → List ℕ → ℕ
 verifyRest job c =
     rule (allowed (dataWires job) (freeLayout job) (layoutOf c)) 15
     (rule (agrees (layoutOf c) (forwards (gates c)) (rows job)) 16
-    (limitsCode job c))
+    (rule (clean (dataWires job) (forwards (gates c))) 24
+    (limitsCode job c)))
 
 -- "after the job's checks and then the circuit's": those of measuring, then the rest
 unfoldable pub verifyCode : List ℕ → List ℕ → ℕ

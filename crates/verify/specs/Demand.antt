@@ -22,8 +22,8 @@ pub record Passes (job c : List ℕ) : Type 0 where
   pub same-ancillas : ancillas job ≡ ancillas c
   -- "Placing allowed"
   pub laid-out : allowed (dataWires job) (freeLayout job) (layoutOf c) ≡ true
-  -- "Table met"
-  pub realized : realizes (rows job) (layoutOf c) (gates c) ≡ true
+  -- "Table met", the ancilla at 0
+  pub realized : realizes (dataWires job) (rows job) (layoutOf c) (gates c) ≡ true
   -- "within all limits (each limit is itself allowed)"
   pub gates-within : length (gates c) ≤ gateLimit job
   pub cost-within : cost (priceOf job) (gates c) ≤ costLimit job

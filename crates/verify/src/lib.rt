@@ -176,7 +176,10 @@ fn verify_rest(job: &[u8], c: &[u8]) -> u8
     let p = record::layout_of(c);
     let agreed = table::agrees(p, record::gate_list(c), record::table(job));
     let allowed = table::allowed(record::data_wires(job), record::free_layout(job), p);
-    logic::rule(allowed, 15, logic::rule(agreed, 16, limits_code(job, c)))
+    let clean = table::clean(record::data_wires(job), record::gate_list(c));
+    let limits = limits_code(job, c);
+    let met = logic::rule(agreed, 16, logic::rule(clean, 24, limits));
+    logic::rule(allowed, 15, met)
 }
 
 // Verifies a circuit for a job: a pass has its measures.

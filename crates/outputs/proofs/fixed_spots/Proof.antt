@@ -15,7 +15,7 @@ returns-2 c =
     let s = c .before .before .before in
     let h = c .before .before .if1 .left in
     let y = sym (c .before .fits2 .ensures) ∙ c .if2 .taken in
-    ((λ free f. rw y at (fixed-at (s .args .t) (s .args .t2) (s .args .n) free (s .args .j) f h (s .pre))), digit-most (s .args .j) (s .pre))
+    ((λ free f. rw y at (fixed-at (s .args .t) (s .args .t2) (s .args .n) free (s .args .j) f h (s .pre))), digit-most (s .args .j) (omega arith))
 
 returns-3 : tie.Need-returns-3
 returns-3 c =

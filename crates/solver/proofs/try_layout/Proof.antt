@@ -20,7 +20,7 @@ tested : (c : tie.After-both2) (P : Problem) → let a = c .before .before .befo
 tested c P asks at =
     let a = c .before .before .before .before .before .before .before .before .before .before .args in
     let cheap = c .before .before .both .ensures ∙ ap (λ (d : ℕ). both (leb (a .s .cost) (a .task .«cost_limit»)) (leb d (a .task .«depth_limit»))) (c .before .before .before .before .before .before .latest .ensures) in
-    c .both2 .ensures ∙ ap₂ both (c .before .met .ensures) cheap ∙ good-is P (a .task) (a .s) asks at (a .p)
+    c .both2 .ensures ∙ ap₂ both (c .before .reached .ensures) cheap ∙ good-is P (a .task) (a .s) asks at (a .p)
 
 returns : tie.Need-returns
 returns c =

@@ -4,7 +4,7 @@ use borrow.Author.Needs.{needs}
 use Rattle.logic.specs.Rules.{rule}
 use Rattle.circuit.specs.Run.{forwards}
 use Rattle.table.specs.Layouts.{allowed}
-use Rattle.table.specs.Rows.{agrees}
+use Rattle.table.specs.Rows.{agrees, clean}
 use Rattle.record.proofs.Kept.{sound-job}
 use Rattle.verify.specs.Calls.{verifyRest}
 use Rattle.verify.proofs.verify_rest.Statement.{statement}
@@ -18,17 +18,21 @@ allowed-requires c κs =
 returns : tie.Need-returns
 unfolding verifyRest
 returns c =
-    let f = c .before .before .before .before in
+    let k = c .before .before .before .before in
+    let f = k .before .before .before .before in
     let a = f .before .before in
     let l = a .before .before in
     let p = l .before .layout-of .ensures in
     let agreed = a .agrees .ensures ∙ (λ i. agrees (p i) (forwards (l .gate-list .ensures i)) (a .before .table .ensures i)) in
-    let laid = c .before .before .before .allowed .ensures
+    let laid = k .before .before .before .allowed .ensures
     ∙ (λ i. allowed (f .before .data-wires .ensures .0 i) (f .free-layout .ensures i) (p i)) in
-    let rest = c .before .rule .ensures ∙ (λ i. rule (agreed i) 16 (c .before .before .limits-code .ensures i)) in
-    c .rule2 .ensures ∙ (λ i. rule (laid i) 15 (rest i))
+    let zero = k .clean .ensures ∙ (λ i. clean (k .before .before .data-wires2 .ensures .0 i) (forwards (k .before .gate-list2 .ensures i))) in
+    let rest = c .before .before .rule .ensures ∙ (λ i. rule (zero i) 24 (c .before .before .before .limits-code .ensures i)) in
+    let met = c .before .rule2 .ensures ∙ (λ i. rule (agreed i) 16 (rest i)) in
+    c .rule3 .ensures ∙ (λ i. rule (laid i) 15 (met i))
 
 pub verify-rest-spec : {M : Type 1} → statement M
 verify-rest-spec =
     tie.close (tie.spec (λ c κs. search needs) (λ c κs. search needs) (λ c κs. search needs) (λ c κs. search needs) (λ c κs. search needs)
-    (λ c κs. search needs) allowed-requires (λ c κs. search needs) (λ c κs. search needs) (λ c κs. search needs) returns)
+    (λ c κs. search needs) allowed-requires (λ c κs. search needs) (λ c κs. search needs) (λ c κs. search needs) (λ c κs. search needs)
+    (λ c κs. search needs) (λ c κs. search needs) (λ c κs. search needs) returns)

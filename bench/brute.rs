@@ -1,7 +1,7 @@
 //! The plainest exhaustive search of document 01: every list of lawful gates up to the
 //! gate limit, with every allowed layout, row by row, the ancilla back at 0 in each of them. No bounds, no incumbent cuts, no
-//! parity: the source of expected values. Reads a job from standard input and prints the
-//! line that `main` prints. Build: rustc -O brute.rs
+//! parity: the source of expected values. A job of 22 or 30 bytes has four kinds of gates, and a mark in its
+//! answers. Reads a job from standard input and prints the line that `main` prints. Build: rustc -O brute.rs
 use std::io::Read;
 
 /// Cost, gates, depth, layout byte, gate bytes: compared in this order.
@@ -14,18 +14,19 @@ struct Job {
     gate_limit: usize,
     cost_limit: u32,
     depth_limit: u32,
-    prices: [u32; 3],
-    durations: [u32; 3],
+    kinds: usize, // 3, or 4 where gates of three controls are lawful
+    prices: Vec<u32>,
+    durations: Vec<u32>,
     rows: Vec<u8>, // care mask in the high four bits, value in the low four
 }
 
 /// The job's checks in document 01's order: the number of the first one broken, or the job.
 fn read_job(b: &[u8]) -> Result<Job, u8> {
-    if b.len() != 20 && b.len() != 28 {
+    if ![20, 22, 28, 30].contains(&b.len()) {
         return Err(1);
     }
     let (n, m, free) = (b[0] >> 5, b[0] >> 3 & 3, b[0] >> 2 & 1 == 1);
-    if !(n == 3 && b.len() == 20 || n == 4 && b.len() == 28) {
+    if !(n == 3 && b.len() < 28 || n == 4 && b.len() >= 28) {
         return Err(2);
     }
     if m > 1 || b[0] & 3 != 0 {
@@ -34,10 +35,13 @@ fn read_job(b: &[u8]) -> Result<Job, u8> {
     if b[1] > 12 {
         return Err(4);
     }
-    if b[9] == 0 || b[10] == 0 || b[11] == 0 {
+    let kinds = if b.len() == 22 || b.len() == 30 { 4 } else { 3 };
+    let (prices, rest) = b[6..].split_at(kinds);
+    let (durations, rows) = rest.split_at(kinds);
+    if durations.contains(&0) {
         return Err(5);
     }
-    for &row in &b[12..] {
+    for &row in rows {
         let (mask, value) = (row >> 4, row & 15);
         if value & !mask != 0 || mask >= 1 << n {
             return Err(6);
@@ -50,15 +54,16 @@ fn read_job(b: &[u8]) -> Result<Job, u8> {
         gate_limit: b[1] as usize,
         cost_limit: b[2] as u32 * 256 + b[3] as u32,
         depth_limit: b[4] as u32 * 256 + b[5] as u32,
-        prices: [b[6] as u32, b[7] as u32, b[8] as u32],
-        durations: [b[9] as u32, b[10] as u32, b[11] as u32],
-        rows: b[12..].to_vec(),
+        kinds,
+        prices: prices.iter().map(|&p| p as u32).collect(),
+        durations: durations.iter().map(|&d| d as u32).collect(),
+        rows: rows.to_vec(),
     })
 }
 
-fn lawful(gate: u8, w: u8) -> bool {
+fn lawful(gate: u8, w: u8, kinds: usize) -> bool {
     let (target, controls) = (gate >> 5, gate & 31);
-    target < w && controls >> w == 0 && controls >> target & 1 == 0 && controls.count_ones() <= 2
+    target < w && controls >> w == 0 && controls >> target & 1 == 0 && kind(gate) < kinds
 }
 
 /// The wire of output bit j: the layout's fields stand from the high end down.
@@ -146,7 +151,7 @@ fn answer(bytes: &[u8]) -> String {
         Err(number) => return format!("refused {number}"),
         Ok(job) => job,
     };
-    let gates: Vec<u8> = (0..=255).filter(|&g| lawful(g, job.n + job.m)).collect();
+    let gates: Vec<u8> = (0..=255).filter(|&g| lawful(g, job.n + job.m, job.kinds)).collect();
     let plain = if job.n == 3 { 0x18 } else { 0x1B };
     let allowed = |l: u8| layout_in_order(l, job.n) && (job.free || l == plain);
     let layouts: Vec<u8> = (0..=255).filter(|&l| allowed(l)).collect();
@@ -155,7 +160,8 @@ fn answer(bytes: &[u8]) -> String {
     match best {
         None => "refused 14".to_string(),
         Some((cost, count, depth, layout, list)) => {
-            let mut record = vec![job.n << 5 | job.m << 3, layout, count as u8];
+            let mark = (job.kinds == 4) as u8;
+            let mut record = vec![job.n << 5 | job.m << 3 | mark, layout, count as u8];
             record.extend(list);
             let hex: String = record.iter().map(|byte| format!("{byte:02X}")).collect();
             format!("found {count} {cost} {depth} {hex}")
@@ -165,6 +171,6 @@ fn answer(bytes: &[u8]) -> String {
 
 fn main() {
     let mut bytes = Vec::new();
-    let _ = std::io::stdin().lock().take(29).read_to_end(&mut bytes);
+    let _ = std::io::stdin().lock().take(31).read_to_end(&mut bytes);
     println!("{}", answer(&bytes));
 }

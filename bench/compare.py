@@ -8,9 +8,9 @@ Every second job has a gate limit beyond brute.rs, which sits out. Without: plai
 level (base, full, max, and max with the reach filters forced on small jobs) and brute.rs; with
 --deep the gate limits are larger and the base level is the measure instead of brute.rs.
 
-The jobs: 3 and 4 data wires, with and without ancilla, both layouts, care masks of all shapes,
-prices from 0, tight cost and depth limits (also just at the answer's measures, or one below),
-and a few spoiled ones. rustc -O compiles into ../target. Prints each difference with its job,
+The jobs: 3 and 4 data wires, with and without ancilla, both layouts, gates of at most two controls
+and (every second job) of three, care masks of all shapes, prices from 0, tight cost and depth
+limits (also just at the answer's measures, or one below), and a few spoiled ones. rustc -O compiles into ../target. Prints each difference with its job,
 then the counts; the exit code is 1 if there was a difference.
 """
 import argparse
@@ -41,21 +41,21 @@ def line_of(command, job):
     return run.stdout.decode()
 
 
-def random_gate(rng, wires):
+def random_gate(rng, wires, most):
     target = rng.randrange(wires)
     others = [i for i in range(wires) if i != target]
-    controls = rng.sample(others, min(rng.choice([0, 1, 1, 2, 2, 2]), len(others)))
+    controls = rng.sample(others, min(rng.choice([0, 1, 1, 2, 2, most]), len(others)))
     return target, sum(1 << i for i in controls)
 
 
-def random_values(rng, n, m, length):
+def random_values(rng, n, m, length, most):
     """Values of a random circuit's outputs, or of no circuit in particular."""
     style = rng.random()
     if style < 0.08:
         return [rng.randrange(1 << n) for _ in range(1 << n)]
     if style < 0.13:
         return rng.sample(range(1 << n), 1 << n)
-    gates = [random_gate(rng, n + m) for _ in range(length)]
+    gates = [random_gate(rng, n + m, most) for _ in range(length)]
     if m == 1 and length >= 2 and style < 0.4:  # a product on the ancilla, its use, the product again
         a, b, target = rng.sample(range(n), 3)
         c = rng.choice([i for i in range(n) if i != target])
@@ -93,26 +93,26 @@ def random_masks(rng, n):
     return [rng.randrange(1 << n) for _ in range(rows)]
 
 
-def random_prices(rng):
+def random_prices(rng, kinds):
     style = rng.randrange(6)
     if style == 0:
-        return [1, 1, 5]
+        return [1, 1, 5, 9][:kinds]
     if style == 1:
-        return [rng.randrange(3)] * 3
+        return [rng.randrange(3)] * kinds
     if style == 2:
-        return [rng.randrange(2) for _ in range(3)]
+        return [rng.randrange(2) for _ in range(kinds)]
     if style == 3:
-        return [rng.choice([0, 1, 100, 254, 255]) for _ in range(3)]
-    return [rng.randrange(6) for _ in range(3)]
+        return [rng.choice([0, 1, 100, 254, 255]) for _ in range(kinds)]
+    return [rng.randrange(6) for _ in range(kinds)]
 
 
-def random_durations(rng):
+def random_durations(rng, kinds):
     style = rng.randrange(4)
     if style == 0:
-        return [1, 1, 7]
+        return [1, 1, 7, 11][:kinds]
     if style == 1:
-        return [rng.choice([1, 2, 254, 255]) for _ in range(3)]
-    return [rng.randrange(1, 5) for _ in range(3)]
+        return [rng.choice([1, 2, 254, 255]) for _ in range(kinds)]
+    return [rng.randrange(1, 5) for _ in range(kinds)]
 
 
 def random_limit(rng, greatest):
@@ -122,12 +122,13 @@ def random_limit(rng, greatest):
     return rng.randrange(greatest + 2)
 
 
-def random_job(rng, limits):
+def random_job(rng, limits, most=None):
     n, m, free = rng.choice([3, 4]), rng.randrange(2), rng.randrange(2)
+    most = most or rng.choice([2, 3])  # controls of a gate; with 3 the job is a longer one
     weights = limits[n + m]
     limit = rng.choices(range(len(weights)), weights)[0]
-    prices, durations = random_prices(rng), random_durations(rng)
-    values = random_values(rng, n, m, rng.choice([limit, limit, limit + 1, rng.randrange(limit + 1)]))
+    prices, durations = random_prices(rng, most + 1), random_durations(rng, most + 1)
+    values = random_values(rng, n, m, rng.choice([limit, limit, limit + 1, rng.randrange(limit + 1)]), most)
     rows = [mask << 4 | value & mask for mask, value in zip(random_masks(rng, n), values)]
     cost = random_limit(rng, limit * max(prices))
     depth = random_limit(rng, limit * max(durations))

@@ -13,13 +13,14 @@
 //!         outputs, and B1 and B2 in one test before each gate.
 //!   max   I1, I2, F only for equal prices, B1 on outputs and wires, B2, B3, E1, N1, N2, N3, B4
 //!         and B5 (m = 0).
-//! An odd table on four wires is infeasible (parity) at every level, before any search.
+//! An odd table on four wires is infeasible (parity) at every level, before any search; so not in a
+//! job of 22 or 30 bytes, whose gates may have three controls. A heavy gate below has two or more.
 //! The rules:
 //!   B1  outputs that no wire matches (or wires that match no output) want a gate each, and so
 //!       does an ancilla that is not at 0;
 //!   B2  where all gates to come are wanted so, the next one gives a wire its output, or the
 //!       ancilla its 0;
-//!   B3  affine span: the Toffolis still needed, and the most gates that the budget allows;
+//!   B3  affine span: the heavy gates still needed, and the most gates that the budget allows;
 //!   B4  a lossy set of the states within some gates of the target;
 //!   B5  the same of these states less one wire, and less two;
 //!   E1  a run looks only at lists of exactly its cost and its gates;
@@ -54,7 +55,7 @@ struct Options {
 struct Gate {
     byte: u8,
     target: usize,
-    controls: [usize; 2], // ONES where absent
+    controls: [usize; 3], // ONES where absent
     kind: usize,
     wires: u8,
 }
@@ -71,8 +72,9 @@ struct Job {
     gate_limit: usize,
     cost_limit: u32,
     depth_limit: u16,
-    prices: [u32; 3],
-    durations: [u16; 3],
+    controls: usize, // the most that a gate may have
+    prices: [u32; 4],
+    durations: [u16; 4],
     target: [u16; 4],   // wanted value of each output, as a column
     care: [u16; 4],     // care mask of each output, as a column
     rows: u16,          // one bit a row
@@ -82,19 +84,25 @@ struct Job {
     layouts: Vec<Layout>,
 }
 
+/// How many kinds of gates a job has prices for.
+fn kinds(b: &[u8]) -> usize {
+    if b.len() == 22 || b.len() == 30 { 4 } else { 3 }
+}
+
 fn refusal(b: &[u8]) -> u8 {
     let row_ok = |row: u8| row & 15 & !(row >> 4) == 0 && (row >> 4) >> (b[0] >> 5) == 0;
-    if b.len() != 20 && b.len() != 28 {
+    let (times, rows) = (6 + kinds(b), 6 + 2 * kinds(b));
+    if ![20, 22, 28, 30].contains(&b.len()) {
         1
-    } else if (b[0] >> 5, b.len()) != (3, 20) && (b[0] >> 5, b.len()) != (4, 28) {
+    } else if (1 << (b[0] >> 5)) + rows != b.len() {
         2
     } else if b[0] & 0x13 != 0 {
         3
     } else if b[1] > 12 {
         4
-    } else if b[9..12].contains(&0) {
+    } else if b[times..rows].contains(&0) {
         5
-    } else if !b[12..].iter().all(|&row| row_ok(row)) {
+    } else if !b[rows..].iter().all(|&row| row_ok(row)) {
         6
     } else {
         0
@@ -103,24 +111,24 @@ fn refusal(b: &[u8]) -> u8 {
 
 fn gate_of(byte: u8) -> Gate {
     let mask = byte & 31;
-    let mut controls = [ONES; 2];
+    let mut controls = [ONES; 3];
     for (slot, wire) in (0..5).filter(|i| mask >> i & 1 == 1).enumerate() {
-        controls[slot] = wire;
+        controls[slot] = wire; // gates of more controls are sieved out before
     }
     let target = (byte >> 5) as usize;
     Gate { byte, target, controls, kind: mask.count_ones() as usize, wires: mask | 1 << target }
 }
 
-fn gates_of(w: usize) -> Vec<Gate> {
+fn gates_of(w: usize, most: usize) -> Vec<Gate> {
     let lawful = |byte: &u8| {
         let (target, mask) = (byte >> 5, byte & 31);
-        (target as usize) < w && mask >> w == 0 && mask >> target & 1 == 0 && mask.count_ones() <= 2
+        (target as usize) < w && mask >> w == 0 && mask >> target & 1 == 0 && mask.count_ones() as usize <= most
     };
     (0..=255).filter(lawful).map(gate_of).collect()
 }
 
-fn gates_on(target: usize, w: usize) -> Vec<Gate> {
-    gates_of(w).into_iter().filter(|gate| gate.target == target).collect()
+fn gates_on(target: usize, w: usize, most: usize) -> Vec<Gate> {
+    gates_of(w, most).into_iter().filter(|gate| gate.target == target).collect()
 }
 
 fn layouts_of(n: usize, free: bool) -> Vec<Layout> {
@@ -138,6 +146,7 @@ fn layouts_of(n: usize, free: bool) -> Vec<Layout> {
 
 fn job_of(b: &[u8]) -> Job {
     let (n, m, free) = ((b[0] >> 5) as usize, (b[0] >> 3 & 3) as usize, b[0] >> 2 & 1 == 1);
+    let controls = kinds(b) - 1;
     let mut job = Job {
         n,
         m,
@@ -145,17 +154,18 @@ fn job_of(b: &[u8]) -> Job {
         gate_limit: b[1] as usize,
         cost_limit: u16::from_be_bytes([b[2], b[3]]) as u32,
         depth_limit: u16::from_be_bytes([b[4], b[5]]),
-        prices: [b[6], b[7], b[8]].map(u32::from),
-        durations: [b[9], b[10], b[11]].map(u16::from),
+        controls,
+        prices: std::array::from_fn(|i| if i <= controls { b[6 + i] as u32 } else { 0 }),
+        durations: std::array::from_fn(|i| if i <= controls { b[7 + controls + i] as u16 } else { 0 }),
         target: [0; 4],
         care: [0; 4],
         rows: ((1u32 << (1 << n)) - 1) as u16,
         full_rows: 0,
-        gates: gates_of(n + m),
-        gates_on: (0..n + m).map(|t| gates_on(t, n + m)).collect(),
+        gates: gates_of(n + m, controls),
+        gates_on: (0..n + m).map(|t| gates_on(t, n + m, controls)).collect(),
         layouts: layouts_of(n, free),
     };
-    for (x, &row) in b[12..].iter().enumerate() {
+    for (x, &row) in b[6 + 2 * kinds(b)..].iter().enumerate() {
         for j in 0..n {
             job.target[j] |= ((row >> j & 1) as u16) << x;
             job.care[j] |= ((row >> (4 + j) & 1) as u16) << x;
@@ -222,13 +232,15 @@ impl Job {
 
     /// Occupies the gate's wires for its duration.
     #[inline(always)]
-    fn schedule(&self, state: &mut State, gate: &Gate) {
-        let (t, [a, b]) = (gate.target & 7, gate.controls.map(|c| c & 7));
+    fn schedule<const K: usize>(&self, state: &mut State, gate: &Gate) {
+        let (t, wires) = (gate.target & 7, gate.controls.map(|c| c & 7));
         let r = &mut state.ready;
-        let end = r[t].max(r[a]).max(r[b]) + self.durations[gate.kind];
+        let free = wires[..K].iter().fold(r[t], |time, &c| time.max(r[c]));
+        let end = free + self.durations[gate.kind];
         r[t] = end;
-        r[a] = end;
-        r[b] = end;
+        for &c in &wires[..K] {
+            r[c] = end;
+        }
         r[ONES] = 0;
         state.depth = state.depth.max(end);
     }
@@ -256,8 +268,8 @@ impl Job {
 
 /// What the gate adds to its target's column.
 #[inline(always)]
-fn product(columns: &Columns, gate: &Gate) -> u16 {
-    columns[gate.controls[0] & 7] & columns[gate.controls[1] & 7]
+fn product<const K: usize>(columns: &Columns, gate: &Gate) -> u16 {
+    gate.controls[1..K].iter().fold(columns[gate.controls[0] & 7], |rows, &c| rows & columns[c & 7])
 }
 
 /// The number of ones of a set of outputs (rustc -O alone has no instruction for it).
@@ -315,7 +327,7 @@ struct Base<'a> {
 }
 
 impl Base<'_> {
-    fn search<const N: usize, const FREE: bool>(&mut self, r: usize, len: usize, s: &State, cost: u32) {
+    fn search<const N: usize, const FREE: bool, const K: usize>(&mut self, r: usize, len: usize, s: &State, cost: u32) {
         self.nodes += 1;
         if unmatched_outputs::<N>(&s.matched) + dirty::<N>(&s.columns) == 0 {
             if let Some(layout) = self.job.layout_for(&s.matched) {
@@ -335,7 +347,7 @@ impl Base<'_> {
                 continue;
             }
             let t = gate.target;
-            let column = s.columns[t & 7] ^ product(&s.columns, gate);
+            let column = s.columns[t & 7] ^ product::<K>(&s.columns, gate);
             let matched = if t < N { job.matches::<N, FREE>(t, column) } else { 0 };
             let mut child = *s;
             child.columns[t & 7] = column;
@@ -345,17 +357,17 @@ impl Base<'_> {
             if t < N {
                 child.matched[t] = matched;
             }
-            job.schedule(&mut child, gate);
+            job.schedule::<K>(&mut child, gate);
             if child.depth > job.depth_limit {
                 continue;
             }
             self.path[len] = gate.byte;
-            self.search::<N, FREE>(r - 1, len + 1, &child, cost);
+            self.search::<N, FREE, K>(r - 1, len + 1, &child, cost);
         }
     }
 }
 
-fn solve_base<const N: usize, const FREE: bool>(job: &Job) -> (Option<Key>, u64) {
+fn solve_base<const N: usize, const FREE: bool, const K: usize>(job: &Job) -> (Option<Key>, u64) {
     let mut base = Base {
         job,
         path: [0; 12],
@@ -364,7 +376,7 @@ fn solve_base<const N: usize, const FREE: bool>(job: &Job) -> (Option<Key>, u64)
         best_gates: 12,
         nodes: 0,
     };
-    base.search::<N, FREE>(job.gate_limit, 0, &job.start::<N, FREE>(), 0);
+    base.search::<N, FREE, K>(job.gate_limit, 0, &job.start::<N, FREE>(), 0);
     (base.best, base.nodes)
 }
 
@@ -373,7 +385,7 @@ fn solve_base<const N: usize, const FREE: bool>(job: &Job) -> (Option<Key>, u64)
 /// Runs of the deepening: the best list of at most so many gates and at most so much cost.
 struct Full<'a> {
     job: &'a Job,
-    extra: u32,          // what a Toffoli costs above the least price; 0: B3 is of no use
+    extra: u32,          // what a heavy gate costs above the least price; 0: B3 is of no use
     affordable: Vec<u8>, // by budget: the greatest number of gates at the least price
     path: [u8; 12],
     best: Option<Key>,
@@ -402,7 +414,7 @@ impl Full<'_> {
         }
     }
 
-    fn search<const N: usize, const FREE: bool>(&mut self, r: usize, len: usize, s: &State, cost: u32, rho: u32) {
+    fn search<const N: usize, const FREE: bool, const K: usize>(&mut self, r: usize, len: usize, s: &State, cost: u32, rho: u32) {
         self.nodes += 1;
         if cost > self.best_cost || cost == self.best_cost && len > self.best_gates {
             return;
@@ -419,8 +431,11 @@ impl Full<'_> {
             return;
         }
         // For each kind of gate: the greatest number of gates after it, or -1.
-        let after: [i32; 3] = std::array::from_fn(|kind| {
-            let rho = rho.saturating_sub((kind == 2) as u32);
+        let after: [i32; 4] = std::array::from_fn(|kind| {
+            if kind > K {
+                return -1;
+            }
+            let rho = rho.saturating_sub((kind >= 2) as u32);
             let after = budget.checked_sub(job.prices[kind]).and_then(|b| self.to_come(r - 1, b, rho));
             after.map_or(-1, |gates| gates as i32)
         });
@@ -439,7 +454,7 @@ impl Full<'_> {
             let care = if t < N { job.care[t] } else { job.rows };
             let wrong = if t < N { (s.columns[t] ^ job.target[t]) & care } else { s.columns[t & 7] };
             for gate in gates {
-                let product = product(&s.columns, gate);
+                let product = product::<K>(&s.columns, gate);
                 if last && (!FREE || t == N) && product & care != wrong {
                     continue; // for a data wire the same test as the one below, sooner
                 }
@@ -458,13 +473,13 @@ impl Full<'_> {
                 if t < N {
                     child.matched[t] = matched;
                 }
-                job.schedule(&mut child, gate);
+                job.schedule::<K>(&mut child, gate);
                 if child.depth > job.depth_limit {
                     continue;
                 }
                 let cost = cost + job.prices[gate.kind];
                 let mut rho = rho;
-                if self.extra > 0 && gate.kind == 2 && cost <= self.best_cost {
+                if self.extra > 0 && gate.kind >= 2 && cost <= self.best_cost {
                     rho = job.span_gap::<N>(&child.columns);
                     let gates = self.to_come(r - 1, self.best_cost - cost, rho);
                     if gates.map_or(true, |gates| unmatched > gates as i32) {
@@ -472,38 +487,46 @@ impl Full<'_> {
                     }
                 }
                 self.path[len] = gate.byte;
-                self.search::<N, FREE>(r - 1, len + 1, &child, cost, rho);
+                self.search::<N, FREE, K>(r - 1, len + 1, &child, cost, rho);
             }
         }
     }
 
-    fn run<const N: usize, const FREE: bool>(&mut self, gates: usize, cost: u32, rho: u32) -> bool {
+    fn run<const N: usize, const FREE: bool, const K: usize>(&mut self, gates: usize, cost: u32, rho: u32) -> bool {
         self.best = None;
         (self.best_cost, self.best_gates) = (cost, gates);
-        self.search::<N, FREE>(gates, 0, &self.job.start::<N, FREE>(), 0, rho);
+        self.search::<N, FREE, K>(gates, 0, &self.job.start::<N, FREE>(), 0, rho);
         self.best.is_some()
+    }
+}
+
+/// Cost and number of heavy gates of every list of so many gates, by the numbers of its kinds.
+fn each_bill(job: &Job, gates: usize, mut bill: impl FnMut(usize, usize)) {
+    let p = job.prices.map(|p| p as usize);
+    for a in 0..=gates {
+        for b in 0..=gates - a {
+            let heavy = gates - a - b;
+            for d in 0..=if job.controls == 3 { heavy } else { 0 } {
+                bill(a * p[0] + b * p[1] + (heavy - d) * p[2] + d * p[3], heavy);
+            }
+        }
     }
 }
 
 /// I1: whether some list within the gate limit has this cost, for each cost.
 fn sums(job: &Job) -> Vec<bool> {
     let mut sums = vec![false; MAX_COST + 1];
-    let [not, cnot, toffoli] = job.prices.map(|p| p as usize);
-    for a in 0..=job.gate_limit {
-        for b in 0..=job.gate_limit - a {
-            for c in 0..=job.gate_limit - a - b {
-                sums[a * not + b * cnot + c * toffoli] = true;
-            }
-        }
+    for gates in 0..=job.gate_limit {
+        each_bill(job, gates, |cost, _| sums[cost] = true);
     }
     sums
 }
 
-fn solve_full<const N: usize, const FREE: bool>(job: &Job) -> (Option<Key>, u64) {
-    let low = *job.prices.iter().min().unwrap() as usize;
+fn solve_full<const N: usize, const FREE: bool, const K: usize>(job: &Job) -> (Option<Key>, u64) {
+    let low = *job.prices[..=K].iter().min().unwrap() as usize;
     let mut full = Full {
         job,
-        extra: job.prices[2] - low as u32,
+        extra: job.prices[2..=K].iter().min().unwrap() - low as u32,
         affordable: (0..=MAX_COST).map(|b| if low == 0 { 12 } else { 12.min(b / low) as u8 }).collect(),
         path: [0; 12],
         best: None,
@@ -514,7 +537,7 @@ fn solve_full<const N: usize, const FREE: bool>(job: &Job) -> (Option<Key>, u64)
     let rho = if full.extra > 0 { job.span_gap::<N>(&job.start::<N, FREE>().columns) } else { 0 };
     let limit = job.cost_limit.min(MAX_COST as u32);
     // F: the least number of gates within all limits, and the best list of so many.
-    let Some(least) = (0..=job.gate_limit).find(|&gates| full.run::<N, FREE>(gates, limit, rho)) else {
+    let Some(least) = (0..=job.gate_limit).find(|&gates| full.run::<N, FREE, K>(gates, limit, rho)) else {
         return (None, full.nodes);
     };
     let first = full.best.take().unwrap();
@@ -522,7 +545,7 @@ fn solve_full<const N: usize, const FREE: bool>(job: &Job) -> (Option<Key>, u64)
     let sums = sums(job);
     for cost in (0..first.0).filter(|&cost| sums[cost as usize]) {
         let Some(most) = full.to_come(job.gate_limit, cost, rho) else { continue };
-        if (least..=most).any(|gates| full.run::<N, FREE>(gates, cost, rho)) {
+        if (least..=most).any(|gates| full.run::<N, FREE, K>(gates, cost, rho)) {
             return (full.best, full.nodes);
         }
     }
@@ -568,7 +591,7 @@ impl Reach {
         set[ix as usize >> 6] >> (ix & 63) & 1 == 1
     }
 
-    fn fill<const N: usize, const FREE: bool>(&mut self, gates: &[Gate], columns: &Columns, k: usize) {
+    fn fill<const N: usize, const FREE: bool, const K: usize>(&mut self, gates: &[Gate], columns: &Columns, k: usize) {
         let shares: [u64; N] = std::array::from_fn(|i| share::<FREE>(i, columns[i]));
         let hash = shares.iter().fold(0u64, |h, s| h.wrapping_add(*s));
         Reach::add(self.shift, &mut self.whole, hash);
@@ -582,8 +605,8 @@ impl Reach {
         if k > 0 {
             for gate in gates {
                 let mut next = *columns;
-                next[gate.target & 7] ^= product(columns, gate);
-                self.fill::<N, FREE>(gates, &next, k - 1);
+                next[gate.target & 7] ^= product::<K>(columns, gate);
+                self.fill::<N, FREE, K>(gates, &next, k - 1);
             }
         }
     }
@@ -595,10 +618,10 @@ impl Reach {
 /// of cost at most `cost`).
 struct Max<'a> {
     job: &'a Job,
-    use_span: bool,       // B3 is of use: a Toffoli costs more than some other gate
-    possible: Vec<Vec<u16>>, // E1: [gates][budget], bit t: some list with t Toffolis
-    commute: Vec<u64>,    // N2, N3: by gate, as sets of gates
-    disjoint: Vec<u64>,
+    use_span: bool,       // B3 is of use: a heavy gate costs more than some other gate
+    possible: Vec<Vec<u16>>, // E1: [gates][budget], bit t: some list with t heavy gates
+    commute: Vec<Gates>,  // N2, N3: by gate
+    disjoint: Vec<Gates>,
     reach: Option<Reach>,
     reach_plan: &'a [(usize, usize)],
     path: [u8; 12],
@@ -608,14 +631,17 @@ struct Max<'a> {
     nodes: u64,
 }
 
+/// A set of gates, by their places in the table of at most 75.
+type Gates = u128;
+
 /// What a node passes down beside the state.
 #[derive(Clone, Copy)]
 struct Node {
     r: usize,
     budget: u32,
-    rho: u32, // B3: Toffolis still needed
-    sleep: u64,
-    cancel: u64,
+    rho: u32, // B3: heavy gates still needed
+    sleep: Gates,
+    cancel: Gates,
     targets: u8, // B5: the next gate's targets
 }
 
@@ -629,7 +655,7 @@ impl Max<'_> {
     /// B2, where every gate still to come must be the only write to a wire that is wrong: can
     /// the next gate give some wire i the value of an output j that it doesn't match now?
     /// Only unmatched wires (outputs) count if these alone make up the gates to come.
-    fn fixable<const N: usize, const FREE: bool>(&self, s: &State, gates: usize) -> bool {
+    fn fixable<const N: usize, const FREE: bool, const K: usize>(&self, s: &State, gates: usize) -> bool {
         let job = self.job;
         let w = N + job.m;
         let dirt = dirty::<N>(&s.columns);
@@ -646,6 +672,10 @@ impl Max<'_> {
                 for b in (0..a).filter(|&b| b != i) {
                     products[count] = s.columns[a] & s.columns[b];
                     count += 1;
+                    for c in (0..if K == 3 { b } else { 0 }).filter(|&c| c != i) {
+                        products[count] = s.columns[a] & s.columns[b] & s.columns[c];
+                        count += 1;
+                    }
                 }
             }
             if i == N {
@@ -672,7 +702,7 @@ impl Max<'_> {
         }
     }
 
-    fn search<const N: usize, const FREE: bool>(&mut self, len: usize, s: &State, node: Node) {
+    fn search<const N: usize, const FREE: bool, const K: usize>(&mut self, len: usize, s: &State, node: Node) {
         self.nodes += 1;
         let dirt = dirty::<N>(&s.columns);
         let wrong = unmatched_outputs::<N>(&s.matched).max(unmatched_wires::<N>(&s.matched)) + dirt;
@@ -683,7 +713,7 @@ impl Max<'_> {
             }
             return;
         }
-        if wrong > node.r || wrong == node.r && !self.fixable::<N, FREE>(s, node.r) {
+        if wrong > node.r || wrong == node.r && !self.fixable::<N, FREE, K>(s, node.r) {
             return;
         }
         let job = self.job;
@@ -723,7 +753,7 @@ impl Max<'_> {
             if price > node.budget || asleep >> g & 1 == 1 || targets >> t & 1 == 0 {
                 continue;
             }
-            let product = product(&s.columns, gate);
+            let product = product::<K>(&s.columns, gate);
             if product == 0 {
                 continue;
             }
@@ -751,12 +781,12 @@ impl Max<'_> {
                     continue;
                 }
             }
-            job.schedule(&mut child, gate);
+            job.schedule::<K>(&mut child, gate);
             if child.depth > self.best_depth {
                 continue;
             }
             let mut next = Node { r: node.r - 1, budget: node.budget - price, targets: 0xFF, ..node };
-            if self.use_span && gate.kind == 2 {
+            if self.use_span && gate.kind >= 2 {
                 if !self.possible(next.r, next.budget, node.rho.saturating_sub(1)) {
                     continue;
                 }
@@ -765,29 +795,29 @@ impl Max<'_> {
             if !self.possible(next.r, next.budget, next.rho) {
                 continue;
             }
-            let below = (1u64 << g) - 1;
+            let below = (1 << g) - 1;
             next.sleep = node.sleep & self.disjoint[g] | self.disjoint[g] & below;
             next.cancel = node.cancel & self.commute[g] | 1 << g;
             next.targets = next_targets[t];
             self.path[len] = gate.byte;
-            self.search::<N, FREE>(len + 1, &child, next);
+            self.search::<N, FREE, K>(len + 1, &child, next);
         }
     }
 
     /// Fills the reach filters if runs of this many gates gain by it.
-    fn widen_reach<const N: usize, const FREE: bool>(&mut self, gates: usize) {
+    fn widen_reach<const N: usize, const FREE: bool, const K: usize>(&mut self, gates: usize) {
         for &(from, radius) in self.reach_plan {
             if gates >= from && self.reach.as_ref().map_or(true, |r| r.radius < radius) {
                 let [a, b, c, d] = self.job.target;
                 let target = [a, b, c, d, 0, 0xFFFF, 0, 0].map(|column| column & self.job.full_rows);
                 let mut reach = Reach::new(radius);
-                reach.fill::<N, FREE>(&self.job.gates, &target, radius);
+                reach.fill::<N, FREE, K>(&self.job.gates, &target, radius);
                 self.reach = Some(reach);
             }
         }
     }
 
-    fn run<const N: usize, const FREE: bool>(&mut self, gates: usize, cost: u32) -> bool {
+    fn run<const N: usize, const FREE: bool, const K: usize>(&mut self, gates: usize, cost: u32) -> bool {
         let job = self.job;
         let start = job.start::<N, FREE>();
         self.best = None;
@@ -798,23 +828,18 @@ impl Max<'_> {
             return false;
         }
         if job.m == 0 && job.full_rows != 0 {
-            self.widen_reach::<N, FREE>(gates);
+            self.widen_reach::<N, FREE, K>(gates);
         }
         let node = Node { r: gates, budget: cost, rho, sleep: 0, cancel: 0, targets: 0xFF };
-        self.search::<N, FREE>(0, &start, node);
+        self.search::<N, FREE, K>(0, &start, node);
         self.best.is_some()
     }
 
     /// E1's table for lists of exactly this cost, or of at most this cost.
     fn fill_possible(&mut self, exactly: bool) {
-        let p = self.job.prices.map(|p| p as usize);
         self.possible = vec![vec![0; MAX_COST + 1]; 13];
         for r in 0..=12 {
-            for t in 0..=r {
-                for a in 0..=r - t {
-                    self.possible[r][a * p[0] + (r - t - a) * p[1] + t * p[2]] |= 1 << t;
-                }
-            }
+            each_bill(self.job, r, |cost, heavy| self.possible[r][cost] |= 1 << heavy);
             for budget in (1..=MAX_COST).filter(|_| !exactly) {
                 self.possible[r][budget] |= self.possible[r][budget - 1];
             }
@@ -822,22 +847,22 @@ impl Max<'_> {
     }
 }
 
-fn sets_of(gates: &[Gate], related: impl Fn(&Gate, &Gate) -> bool) -> Vec<u64> {
+fn sets_of(gates: &[Gate], related: impl Fn(&Gate, &Gate) -> bool) -> Vec<Gates> {
     let set = |g: &Gate| {
         gates.iter().enumerate().filter(|(_, h)| related(g, h)).fold(0, |set, (i, _)| set | 1 << i)
     };
     gates.iter().map(set).collect()
 }
 
-fn solve_max<const N: usize, const FREE: bool>(
+fn solve_max<const N: usize, const FREE: bool, const K: usize>(
     job: &Job,
     reach_plan: &[(usize, usize)],
 ) -> (Option<Key>, u64) {
-    let [not, cnot, toffoli] = job.prices;
+    let heavy = *job.prices[2..=K].iter().min().unwrap();
     let controls = |g: &Gate| g.wires & !(1 << g.target);
     let mut max = Max {
         job,
-        use_span: toffoli > not.min(cnot),
+        use_span: heavy > job.prices[0].min(job.prices[1]),
         possible: Vec::new(),
         commute: sets_of(&job.gates, |g, h| {
             controls(g) >> h.target & 1 == 0 && controls(h) >> g.target & 1 == 0
@@ -852,16 +877,16 @@ fn solve_max<const N: usize, const FREE: bool>(
         nodes: 0,
     };
     let limit = job.cost_limit.min(MAX_COST as u32);
-    if not == cnot && cnot == toffoli {
+    if job.prices[..=K].iter().all(|&p| p == heavy) {
         // F: the least number of gates within all limits is the answer's.
         max.fill_possible(false);
-        let _ = (0..=job.gate_limit).find(|&gates| max.run::<N, FREE>(gates, limit));
+        let _ = (0..=job.gate_limit).find(|&gates| max.run::<N, FREE, K>(gates, limit));
         return (max.best, max.nodes);
     }
     max.fill_possible(true);
     for cost in 0..=limit {
         for gates in 0..=job.gate_limit {
-            if max.possible[gates][cost as usize] != 0 && max.run::<N, FREE>(gates, cost) {
+            if max.possible[gates][cost as usize] != 0 && max.run::<N, FREE, K>(gates, cost) {
                 return (max.best, max.nodes);
             }
         }
@@ -871,11 +896,11 @@ fn solve_max<const N: usize, const FREE: bool>(
 
 // ---------------------------------------------------------------------------- the line
 
-fn solve<const N: usize, const FREE: bool>(job: &Job, options: &Options) -> (Option<Key>, u64) {
+fn solve<const N: usize, const FREE: bool, const K: usize>(job: &Job, options: &Options) -> (Option<Key>, u64) {
     match options.rules {
-        Rules::Base => solve_base::<N, FREE>(job),
-        Rules::Full => solve_full::<N, FREE>(job),
-        Rules::Max => solve_max::<N, FREE>(job, &options.reach_plan),
+        Rules::Base => solve_base::<N, FREE, K>(job),
+        Rules::Full => solve_full::<N, FREE, K>(job),
+        Rules::Max => solve_max::<N, FREE, K>(job, &options.reach_plan),
     }
 }
 
@@ -885,17 +910,22 @@ fn answer(bytes: &[u8], options: &Options) -> (String, u64) {
         return (format!("refused {number}"), 0);
     }
     let job = job_of(bytes);
-    let (best, nodes) = match (job.n, job.free) {
-        (4, _) if job.m == 0 && odd(&job) => (None, 0),
-        (3, false) => solve::<3, false>(&job, options),
-        (3, true) => solve::<3, true>(&job, options),
-        (_, false) => solve::<4, false>(&job, options),
-        (_, true) => solve::<4, true>(&job, options),
+    let (best, nodes) = match (job.n, job.free, job.controls) {
+        (4, _, 2) if job.m == 0 && odd(&job) => (None, 0),
+        (3, false, 2) => solve::<3, false, 2>(&job, options),
+        (3, true, 2) => solve::<3, true, 2>(&job, options),
+        (_, false, 2) => solve::<4, false, 2>(&job, options),
+        (_, true, 2) => solve::<4, true, 2>(&job, options),
+        (3, false, _) => solve::<3, false, 3>(&job, options),
+        (3, true, _) => solve::<3, true, 3>(&job, options),
+        (_, false, _) => solve::<4, false, 3>(&job, options),
+        (_, true, _) => solve::<4, true, 3>(&job, options),
     };
     let line = match best {
         None => "refused 14".to_string(),
         Some((cost, count, depth, layout, list)) => {
-            let mut record = vec![(job.n << 5 | job.m << 3) as u8, layout, count as u8];
+            let mark = (job.controls == 3) as usize;
+            let mut record = vec![(job.n << 5 | job.m << 3 | mark) as u8, layout, count as u8];
             record.extend(list);
             let hex: String = record.iter().map(|byte| format!("{byte:02X}")).collect();
             format!("found {count} {cost} {depth} {hex}")
@@ -935,7 +965,7 @@ fn main() {
         std::process::exit(2);
     };
     let mut bytes = Vec::new();
-    let _ = std::io::stdin().lock().take(29).read_to_end(&mut bytes);
+    let _ = std::io::stdin().lock().take(31).read_to_end(&mut bytes);
     let (line, nodes) = answer(&bytes, &options);
     println!("{line}");
     if options.stats {

@@ -11,7 +11,7 @@ time (user and system) of the whole process, the least of --repeat runs; a progr
 longer than --cap (wall clock) is ended and shows `> CAP`. The exit code is 1 if two answers
 differ.
 
-Job sets: the default has jobs of 3, 4 and 5 wires within reach of the base rules; --sboxes has
+Job sets: the default has jobs of 3, 4 and 5 wires within reach of the base rules, some of them longer ones; --sboxes has
 the S-boxes of source document 002 (limit 12, some with an ancilla), with plain.rs at --rules full, a cap of 20
 seconds, and cadical, if it is installed, on the questions of sat.py.
 """
@@ -28,7 +28,7 @@ import sat
 
 HERE = os.path.dirname(os.path.abspath(__file__))
 sys.path.insert(0, os.path.join(os.path.dirname(HERE), "tools"))
-from jobs import after, job, sbox  # noqa: E402
+from jobs import LONG, after, job, sbox  # noqa: E402
 
 SBOXES = ["GIFT", "PRESENT", "RECTANGLE", "SKINNY", "MIDORI", "ELEPHANT", "LBLOCK", "UBLOCK"]
 WITH_ANCILLA = [("GIFT", 12), ("inverse", 9), ("inverse", 10), ("inverse", 11)]  # and their gate limits; free layout
@@ -62,6 +62,11 @@ def small_jobs():
         yield f"W=5 limit {limit}, rows 7/15", job(exchange, limit, m=1)
         yield f"W=5 limit {limit}, same, free", job(exchange, limit, m=1, free=1)
         yield f"W=5 limit {limit}, one output", some(product_4, limit, 1, m=1)
+    for limit in (5, 6, 7):  # of longer jobs: gates of three controls too
+        yield f"W=4 longer {limit}, rows 0/1", job([1, 0] + list(range(2, 16)), limit, **LONG)
+    for limit in (2, 3):
+        yield f"W=5 longer {limit}, rows 0/1", job([1, 0] + list(range(2, 16)), limit, m=1, **LONG)
+    yield "W=4 longer 8, UBLOCK", job(sbox("UBLOCK"), 8, **LONG)
 
 
 def sbox_jobs():

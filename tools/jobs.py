@@ -1,6 +1,7 @@
 """Jobs and tables that the scripts of tools/ and bench/ share."""
 
 NO_LIMIT = 0xFFFF
+LONG = dict(prices=(1, 1, 5, 9), durations=(1, 1, 7, 11))  # of a longer job
 # Tables of the source documents, one digit a row.
 SBOXES = {
     "GIFT": "1A4C6F392DB7508E",
@@ -22,7 +23,8 @@ def sbox(name):
 
 def job(values, limit, m=0, free=0, cost=NO_LIMIT, depth=NO_LIMIT, prices=(1, 1, 5),
         durations=(1, 1, 7), masks=None):
-    """A job's bytes; value bits outside the care masks are dropped."""
+    """A job's bytes; value bits outside the care masks are dropped. Four prices and four
+    durations make a longer job, in which gates may have three controls."""
     n = 3 if len(values) == 8 else 4
     masks = masks or [(1 << n) - 1] * len(values)
     head = [n << 5 | m << 3 | free << 2, limit, cost >> 8, cost & 255, depth >> 8, depth & 255]
@@ -36,7 +38,7 @@ def after(gates, n, m=0):
     for gate in gates:
         target, controls = gate >> 5, gate & 31
         assert target < n + m and controls < 1 << n + m and not controls >> target & 1
-        assert bin(controls).count("1") <= 2
+        assert bin(controls).count("1") <= 3
     for value in range(1 << n):
         for gate in gates:
             if value & gate & 31 == gate & 31:

@@ -50,10 +50,12 @@ MUTANTS = {
                          "ready[i] = start + job.durations[kind(gate)];\n            }\n        }\n    }\n    list.iter().map(|&gate| job.durations[kind(gate)]).sum()"),
     "controls not held": ("if wires >> i & 1 == 1 {\n                ready", "if gate >> 5 == i as u8 {\n                ready"),
     "controls not waited for": ("(0..5).filter(|i| wires >> i & 1 == 1)", "(0..5).filter(|i| (gate >> 5) as usize == *i)"),
-    "durations swapped": ("durations: [b[9] as u32, b[10] as u32", "durations: [b[10] as u32, b[9] as u32"),
-    "durations swapped (2)": ("b[10] as u32, b[11] as u32]", "b[11] as u32, b[10] as u32]"),
-    "prices swapped": ("prices: [b[6] as u32, b[7] as u32", "prices: [b[7] as u32, b[6] as u32"),
-    "prices swapped (2)": ("b[7] as u32, b[8] as u32]", "b[8] as u32, b[7] as u32]"),
+    "durations swapped": ("durations: durations.iter()", "durations: [durations[1], durations[0]].iter().chain(&durations[2..])"),
+    "durations swapped (2)": ("durations: durations.iter()", "durations: [durations[0], durations[2], durations[1]].iter().chain(&durations[3..])"),
+    "prices swapped": ("prices: prices.iter()", "prices: [prices[1], prices[0]].iter().chain(&prices[2..])"),
+    "prices swapped (2)": ("prices: prices.iter()", "prices: [prices[0], prices[2], prices[1]].iter().chain(&prices[3..])"),
+    "third price for three controls": ("job.prices[kind(gate)]", "job.prices[kind(gate).min(2)]"),
+    "third duration for three controls": ("ready[i] = start + job.durations[kind(gate)]", "ready[i] = start + job.durations[kind(gate).min(2)]"),
     "cost limit low byte first": ("b[2] as u32 * 256 + b[3] as u32", "b[3] as u32 * 256 + b[2] as u32"),
     "depth limit low byte first": ("b[4] as u32 * 256 + b[5] as u32", "b[5] as u32 * 256 + b[4] as u32"),
     "cost limit low byte only": ("b[2] as u32 * 256 + b[3] as u32", "b[3] as u32"),
@@ -73,13 +75,14 @@ MUTANTS = {
                         "ends[x] >> (0..job.n).find(|&i| wire(layout, i) == j).unwrap() & 1 == row >> j & 1"),
     "ancilla dirty": ("if agrees(job, &ends, layout) && clean(job, &ends) {", "if agrees(job, &ends, layout) {"),
     "ancilla starts at 1": ("run(list, x as u8)", "run(list, x as u8 | job.m << job.n)"),
-    "ancilla missing": ("lawful(g, job.n + job.m)", "lawful(g, job.n)"),
-    "ancilla always there": ("lawful(g, job.n + job.m)", "lawful(g, job.n + 1)"),
+    "ancilla missing": ("lawful(g, job.n + job.m, ", "lawful(g, job.n, "),
+    "ancilla always there": ("lawful(g, job.n + job.m, ", "lawful(g, job.n + 1, "),
     "first gate skipped": ("for &gate in gates {", "for &gate in &gates[1..] {"),
     "last gate skipped": ("for &gate in gates {", "for &gate in &gates[..gates.len() - 1] {"),
-    "three controls": ("controls.count_ones() <= 2", "controls.count_ones() <= 3"),
-    "no Toffoli": ("controls.count_ones() <= 2", "controls.count_ones() <= 1"),
-    "no NOT": ("controls.count_ones() <= 2", "(1..=2).contains(&controls.count_ones())"),
+    "four controls": ("kind(gate) < kinds", "kind(gate) <= kinds && (kinds == 4 || kind(gate) < 3)"),
+    "three controls in no job": ("kind(gate) < kinds", "kind(gate) < 3"),
+    "no Toffoli": ("kind(gate) < kinds", "kind(gate) < kinds && kind(gate) != 2"),
+    "no NOT": ("kind(gate) < kinds", "kind(gate) < kinds && kind(gate) != 0"),
     "target among controls": (" && controls >> target & 1 == 0", ""),
     "any control": ("value & (gate & 31) == gate & 31", "value & (gate & 31) != 0 || gate & 31 == 0"),
     "list run backwards": ("for &gate in list {\n        if", "for &gate in list.iter().rev() {\n        if"),
@@ -89,27 +92,33 @@ MUTANTS = {
                               "    let v: Vec<u8> = job.rows.iter().map(|r| r & 15).collect();\n    let odd = (0..v.len()).map(|y| (0..y).filter(|&x| v[x] > v[y]).count()).sum::<usize>() % 2 == 1;\n    if odd && job.m == 0 && job.rows.iter().all(|r| r >> 4 == (1 << job.n) - 1) { return \"refused 14\".to_string(); }\n    let mut best = None;\n    extend("),
     "odd tables infeasible (m = 1)": ("    let mut best = None;\n    extend(",
                               "    let v: Vec<u8> = job.rows.iter().map(|r| r & 15).collect();\n    let odd = (0..v.len()).map(|y| (0..y).filter(|&x| v[x] > v[y]).count()).sum::<usize>() % 2 == 1;\n    if odd && job.n == 4 && job.rows.iter().all(|r| r >> 4 == 15) { return \"refused 14\".to_string(); }\n    let mut best = None;\n    extend("),
+    "odd tables infeasible (longer jobs)": ("    let mut best = None;\n    extend(",
+                              "    let v: Vec<u8> = job.rows.iter().map(|r| r & 15).collect();\n    let odd = (0..v.len()).map(|y| (0..y).filter(|&x| v[x] > v[y]).count()).sum::<usize>() % 2 == 1;\n    if odd && job.n == 4 && job.m == 0 && job.kinds == 4 && job.rows.iter().all(|r| r >> 4 == 15) { return \"refused 14\".to_string(); }\n    let mut best = None;\n    extend("),
     "odd tables infeasible (any mask)": ("    let mut best = None;\n    extend(",
                               "    let v: Vec<u8> = job.rows.iter().map(|r| r & 15).collect();\n    let odd = (0..v.len()).map(|y| (0..y).filter(|&x| v[x] > v[y]).count()).sum::<usize>() % 2 == 1;\n    if odd && job.n == 4 && job.m == 0 { return \"refused 14\".to_string(); }\n    let mut best = None;\n    extend("),
-    "check 1: 28 only": ("b.len() != 20 && b.len() != 28", "b.len() != 28"),
-    "check 1: up to 28": ("b.len() != 20 && b.len() != 28", "b.len() < 20 || b.len() > 28"),
-    "check 2: length not asked": ("!(n == 3 && b.len() == 20 || n == 4 && b.len() == 28)", "n != 3 && n != 4"),
+    "check 1: 28 and 30 only": ("![20, 22, 28, 30].contains", "![28, 30].contains"),
+    "check 1: 20 and 28 only": ("![20, 22, 28, 30].contains", "![20, 28].contains"),
+    "check 1: up to 30": ("![20, 22, 28, 30].contains(&b.len())", "b.len() < 20 || b.len() > 30"),
+    "check 2: length not asked": ("!(n == 3 && b.len() < 28 || n == 4 && b.len() >= 28)", "n != 3 && n != 4"),
     "check 3: m up to 2": ("m > 1 ||", "m > 2 ||"),
     "check 3: low bits not asked": ("m > 1 || b[0] & 3 != 0", "m > 1"),
     "check 3: one low bit": ("b[0] & 3 != 0", "b[0] & 1 != 0"),
     "check 3: other low bit": ("b[0] & 3 != 0", "b[0] & 2 != 0"),
     "check 4: 13 allowed": ("b[1] > 12", "b[1] > 13"),
     "check 4: 12 refused": ("b[1] > 12", "b[1] > 11"),
-    "check 5: first only": ("b[9] == 0 || b[10] == 0 || b[11] == 0", "b[9] == 0"),
-    "check 5: not the last": ("b[9] == 0 || b[10] == 0 || b[11] == 0", "b[9] == 0 || b[10] == 0"),
-    "check 5: not the middle": ("b[9] == 0 || b[10] == 0 || b[11] == 0", "b[9] == 0 || b[11] == 0"),
-    "check 5: prices": ("b[9] == 0 || b[10] == 0 || b[11] == 0", "b[6] == 0 || b[7] == 0 || b[8] == 0"),
+    "check 5: first only": ("durations.contains(&0)", "durations[0] == 0"),
+    "check 5: not the last": ("durations.contains(&0)", "durations[..kinds - 1].contains(&0)"),
+    "check 5: not the fourth": ("durations.contains(&0)", "durations[..3].contains(&0)"),
+    "check 5: not the middle": ("durations.contains(&0)", "durations[0] == 0 || durations[2..].contains(&0)"),
+    "check 5: prices": ("durations.contains(&0)", "prices.contains(&0)"),
     "check 6: bit 3 not asked": ("|| mask >= 1 << n", ""),
     "check 6: value not asked": ("value & !mask != 0 ||", ""),
-    "check 6: last row not asked": ("for &row in &b[12..] {", "for &row in &b[12..b.len() - 1] {"),
-    "check 6: first row not asked": ("for &row in &b[12..] {", "for &row in &b[13..] {"),
+    "check 6: last row not asked": ("for &row in rows {", "for &row in &rows[..rows.len() - 1] {"),
+    "check 6: first row not asked": ("for &row in rows {", "for &row in &rows[1..] {"),
     "check 6: unwanted row refused": ("|| mask >= 1 << n", "|| mask >= 1 << n || mask == 0"),
     "record byte 0 without m": ("job.n << 5 | job.m << 3", "job.n << 5"),
+    "record byte 0 without the mark": ("(job.kinds == 4) as u8", "0"),
+    "the mark for three controls only": ("(job.kinds == 4) as u8", "list.iter().any(|&gate| kind(gate) == 3) as u8"),
 }
 
 
@@ -151,8 +160,8 @@ def main():
     with open(args.data) as file:
         for call in file.read().splitlines():
             record = "" if call.startswith("#") or call.split()[1] == "-" else call.split()[1]
-            if record and (len(record) != 56 or int(record[2:4], 16) <= 4 or int(record[2:4], 16) > 12) \
-                    and not (len(record) == 40 and 6 < int(record[2:4], 16) <= 12):
+            if record and (len(record) not in (56, 60) or int(record[2:4], 16) <= 4 or int(record[2:4], 16) > 12) \
+                    and not (len(record) in (40, 44) and 6 < int(record[2:4], 16) <= 12):
                 jobs.append(bytes.fromhex(record))
     expected = []
     for record in dict.fromkeys(jobs):
@@ -168,9 +177,9 @@ def main():
     print(f"{len(expected)} jobs of the file")
     for name, (old, new) in MUTANTS.items():
         assert right.count(old) == 1, name
-        mutant = build(name, right.replace(old, new))
         if args.only and name not in args.only.split(","):
             continue
+        mutant = build(name, right.replace(old, new))
         shown = sum(line_of(mutant, record) != line for record, line in expected)
         print(f"{shown:4d}  {name}", flush=True)
         if args.pick and shown < 3:

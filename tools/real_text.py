@@ -108,6 +108,8 @@ def write_call(circuit, room):
     code = ref.check_circuit(circuit)
     if code:
         return code, None
+    if ref.read_circuit(circuit).marked:
+        return 8, None
     if circuit[1] != ref.PLAIN_LAYOUT[circuit[0] >> 5]:
         return 15, None
     text = render(circuit)

@@ -495,6 +495,14 @@ def write_refused(calls):
                 calls.write(code, way(sound), 0)
     for record in (b"", b"\x60", b"\x60\x18"):
         calls.write(7, record, 5)
+    calls.heading("a marked circuit: 8, after the circuit's own rules and before 15 and the room")
+    for n, m in SHAPES:
+        other = ref.layouts(n)[-1]
+        for gates in ([], [0x21], [0x67][:n + m - 3]):
+            calls.write(8, circuit(n, m, gates, mark=1), 200)
+            calls.write(8, circuit(n, m, gates, other, 1), 4)
+        calls.write(21, circuit(n, m, [0x22], other, 1), 4)
+        calls.write(9, circuit(n, m, [0x21], 0x00, 1), 4)
     calls.heading("another layout than the plain one: 15, after the circuit's own rules and before the room")
     for n, m in SHAPES:
         for layout in ref.layouts(n):

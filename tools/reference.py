@@ -9,6 +9,10 @@ realize a table is to meet it, and to verify a circuit is to judge it.
 from typing import NamedTuple
 
 GATES_AT_MOST = 12
+# The lengths of a job and the n that goes with each. The second and the last
+# are the longer jobs of document 02, with prices and durations for four kinds.
+DATA_WIRES = {20: 3, 22: 3, 28: 4, 30: 4}
+LONGER = (22, 30)
 PLAIN_LAYOUT = {3: 0x18, 4: 0x1B}
 
 
@@ -28,23 +32,24 @@ def controls_of(gate):
     return [wire for wire in range(5) if bit(gate, wire)]
 
 
-def lawful(gate, wires):
-    """Whether the byte names a gate of a circuit with that many wires."""
+def lawful(gate, wires, most=2):
+    """Whether the byte names a gate of a circuit with that many wires, where a
+    gate may have at most that many controls."""
     target, controls = target_of(gate), controls_of(gate)
     return (target < wires
             and all(control < wires for control in controls)
             and target not in controls
-            and len(controls) <= 2)
+            and len(controls) <= most)
 
 
 def kind_of(gate):
-    """0 for a NOT, 1 for a CNOT, 2 for a Toffoli."""
+    """0 for a NOT, 1 for a CNOT, 2 for a Toffoli, 3 for three controls."""
     return len(controls_of(gate))
 
 
-def gate_table(wires):
+def gate_table(wires, most=2):
     """All lawful gate bytes, rising."""
-    return [gate for gate in range(256) if lawful(gate, wires)]
+    return [gate for gate in range(256) if lawful(gate, wires, most)]
 
 
 def step(gate, value):
@@ -91,7 +96,7 @@ def ready_words(gates, durations):
 
 
 def measures_of(gates, prices, durations):
-    """Prices and durations are triples: of a NOT, a CNOT, a Toffoli."""
+    """Prices and durations by kind, the NOT's first."""
     cost = sum(prices[kind_of(gate)] for gate in gates)
     return Measures(len(gates), cost, max(ready_times(gates, durations)))
 
@@ -124,27 +129,37 @@ class Job(NamedTuple):
     prices: tuple
     durations: tuple
     rows: list        # one pair a row: care mask, value
+    longer: bool      # three controls are lawful
 
 
 class Circuit(NamedTuple):
     n: int
     m: int
+    marked: bool      # it may hold gates of three controls
     layout: int
     gates: list
 
 
+def split_job(job):
+    """Prices, durations and rows of a job of one of the four lengths."""
+    if len(job) in LONGER:
+        return job[6:10], job[10:14], job[14:]
+    return job[6:9], job[9:12], job[12:]
+
+
 def read_job(job):
     """The fields of a job that has passed `check_job`."""
+    prices, durations, rows = split_job(job)
     return Job(job[0] >> 5, (job[0] >> 3) & 3, bool(bit(job[0], 2)),
                Measures(job[1], 256 * job[2] + job[3], 256 * job[4] + job[5]),
-               tuple(job[6:9]), tuple(job[9:12]),
-               [(row >> 4, row & 15) for row in job[12:]])
+               tuple(prices), tuple(durations),
+               [(row >> 4, row & 15) for row in rows], len(job) in LONGER)
 
 
 def read_circuit(circuit):
     """The fields of a circuit that has passed `check_circuit`."""
-    return Circuit(circuit[0] >> 5, (circuit[0] >> 3) & 3, circuit[1],
-                   list(circuit[3:]))
+    return Circuit(circuit[0] >> 5, (circuit[0] >> 3) & 3, bool(bit(circuit[0], 0)),
+                   circuit[1], list(circuit[3:]))
 
 
 def row_sound(row, n):
@@ -154,18 +169,19 @@ def row_sound(row, n):
 
 def check_job(job):
     """The code of the first rule that a job breaks, 0 for a sound one."""
-    if len(job) not in (20, 28):
+    if len(job) not in DATA_WIRES:
         return 1
     n = job[0] >> 5
-    if n != {20: 3, 28: 4}[len(job)]:
+    if n != DATA_WIRES[len(job)]:
         return 2
+    _, durations, rows = split_job(job)
     if (job[0] >> 3) & 3 > 1 or job[0] & 3 != 0:
         return 3
     if job[1] > GATES_AT_MOST:
         return 4
-    if min(job[9:12]) < 1:
+    if min(durations) < 1:
         return 5
-    if not all(row_sound(row, n) for row in job[12:]):
+    if not all(row_sound(row, n) for row in rows):
         return 6
     return 0
 
@@ -175,13 +191,14 @@ def check_circuit(circuit):
     if not 3 <= len(circuit) <= 15:
         return 7
     n, m = circuit[0] >> 5, (circuit[0] >> 3) & 3
-    if n not in (3, 4) or m > 1 or circuit[0] & 7 != 0:
+    if n not in (3, 4) or m > 1 or circuit[0] & 6 != 0:
         return 8
     if not layout_sound(circuit[1], n):
         return 9
     if circuit[2] != len(circuit) - 3:
         return 10
-    if not all(lawful(gate, n + m) for gate in circuit[3:]):
+    most = 3 if bit(circuit[0], 0) else 2
+    if not all(lawful(gate, n + m, most) for gate in circuit[3:]):
         return 21
     return 0
 
@@ -206,7 +223,9 @@ def check_pair(job, circuit):
     if code:
         return code
     asked, given = read_job(job), read_circuit(circuit)
-    return 0 if (asked.n, asked.m) == (given.n, given.m) else 12
+    if (asked.n, asked.m) != (given.n, given.m):
+        return 12
+    return 28 if given.marked and not asked.longer else 0
 
 
 def measure_call(job, circuit):

@@ -20,8 +20,8 @@ import subprocess
 import sys
 import tempfile
 
-from jobs import NO_LIMIT, after, job, sbox
-from reference import ready_words
+from jobs import LONG, NO_LIMIT, after, job, sbox
+from reference import ready_words, split_job
 
 HERE = os.path.dirname(os.path.abspath(__file__))
 SAMPLE_ROWS = [0, 2, 1, 3, 4, 6, 5, 7]
@@ -152,6 +152,61 @@ ANCILLA = """
 6803FFFF000C0204000101072020202022222222
 6C03FFFFFFFF0001000201FE7273707177767574
 """.split()
+# Random longer jobs of bench/compare.py: sixteen answers have a gate of three controls; some again with tightened limits.
+LONGER = """
+8C02FFFFFFFF0164FEFE0201FE01F3F6F8F2F1F1F5F7F4FFF0F7F4FCF3F5
+6803FFFFFFFF05020400040104020000000020001100
+6003FFFF0004FEFF6400010204027476707275737771
+8402FFFF0014010101000101070BF1F4F3F7F5F0F6F2F9FCFBFFFDF8FEFA
+8C020001FFFF0101010104020202F0F8F1F9F4FCF7FF00FAF300F6FEF5FD
+8001FFFF0007000100010101070B00A8B1F9E6CC3120C032A222A0A8C400
+8C010005FFFF02030501FEFE01FEF0F1B2E276F7F4F5F8F9FAFBFEFFDCFD
+6C0301BBFFFF000100FF010102017077747572737671
+8003000301410000030501FF010150555055505550515451545154515554
+6C01FFFFFFFFFE006400FE01FEFF7471707576737277
+8801FFFFFFFF0404050101010102F0F8F1F9F2FAB3BBE4FCF5FDE6BAF7FF
+6C0100010001000100010101070B7072717774767573
+6002FFFF01E002040302FF0101FE7071747372777675
+8402FFFFFFFF0100050204040302D4E676F5F073728074558875D8C8BA11
+8403FFFFFFFF000000000101070BF8FC00FE0000F0F400FD00F500000000
+6004001B000401010509020103027574767371707772
+8403FFFFFFFF0000010004040401A8A8AAAAA8A0A2AAA0A0A2A2A0A8AAA2
+84020000FFFF0000010004040401A8A8AAAAA8A0A2AAA0A0A2A2A0A8AAA2
+8003FFFFFFFF0202020203040102FCDDFEFBF8B9FAFFB0F1F2F3D4F5F6F7
+6003FFFFFFFF01FFFFFE020404013075727370715455
+6C02FFFF01570000000001FE01025044111132225533
+6C00FFFF01570000000001FE01025044111132225533
+6004FFFFFFFF01010509FEFE01FE6031227730312251
+6001FFFFFFFF01010509FEFE01FE6031227730312251
+8003FFFFFFFF020202020202010100200080440000000020000088100000
+6C020003000702000502010203037075727774717673
+6803FFFFFFFFFF64FF01040404047071727374777675
+8C030003FFFF010300010101070B202072A2E4444400A811224098EC0054
+8C0300030006010300010101070B202072A2E4444400A811224098EC0054
+8C02000100010100040101020303F3F8B2F3B2F3FBB1B0F4FEFBF4F5F6FB
+6403FFFFFFFF01010101FE01FE013200506400403071
+6404FFFF00046464FE010101070B7754603073723174
+6802FFFFFFFF03010303040201037477767570737271
+6802FFFF000403010303040201037477767570737271
+8802FFFFFFFF0403000303010404F4F5F6F7F0F1F2F3FCFDFEFFF8F9FAFB
+8802FFFFFFFF010105090403030160E09022903190001040501130313310
+8003FFFFFFFF0000000002030104F0F1F2F7F4F5F6F3FAFFF8F9FBFEFCFD
+8C02000B00090400050103010403F0F4F8FCF1F5F9FDF2F6FAFEF3FFFBF7
+8802FFFFFFFF0101050902FEFF02F0F1F2F3F4F5F6FFFCFDFEF7F8F9FAFB
+8C02FFFF00040300020502040202F0F8F4FCF2FAF6FEF1F9F5FDF3FFF7FB
+8C01000400040300020502040202F0F8F4FCF2FAF6FEF1F9F5FDF3FFF7FB
+8003000100080000000003020202B8E8FAF3FCFDFEFFE0F1B2FBE4F5F6F7
+8003000100080000000003020202B8E8FAF3FCFDFEFFE0F1B2FBE4F5F6F7
+8002FFFFFFFF010105090403030310403011D41110B1D8AA98205566FC44
+8403FFFFFFFF03040301020202FEF0F5F2F7F8FDFFFEF4F1F6F3FCF9FBFA
+84030007010203040301020202FEF0F5F2F7F8FDFFFEF4F1F6F3FCF9FBFA
+84030003FFFF010101010103030370F1F2F3F4F5F6F7E8F9FAEAFCFDFFEE
+80030014FFFF010105090402030100F1F200F4F5FEFFF8F9FAF3FC000000
+88020031000500FF000002010304F0F1F2F3F4F5F6F7F8F9FAFFFCFDFEFB
+88010006FFFF0105050502020401F0F1F2F3F4F5F6FFF8F9FAFBFCFDFEF7
+8C030009FFFF0300050104020103508050A27491D4006011AA9920FF7675
+6C03000502F4000404030202FFFE0000622210206662
+""".split()
 
 
 def placed(values, wires):
@@ -198,7 +253,7 @@ class Vectors:
         if words[0] == "found":
             circuit = bytes.fromhex(words[4])
             buffer = circuit + buffer[len(circuit):]
-            words = ["found", str(len(circuit))] + words[1:4] + [ready_words(circuit[3:], record[9:12])]
+            words = ["found", str(len(circuit))] + words[1:4] + [ready_words(circuit[3:], split_job(record)[1])]
         self.calls.append(f"search {record.hex().upper() or '-'} {room:02X}")
         self.lines.append(" ".join(words + [buffer.hex().upper() or "-"]))
         self.sources[source] = self.sources.get(source, 0) + 1
@@ -558,6 +613,105 @@ def random_jobs(v):
         v.search(bytes.fromhex(record))
 
 
+def marked(line):
+    """The line with the mark in its record."""
+    *words, record = line.split()
+    return " ".join(words + [f"{int(record[:2], 16) | 1:02X}{record[2:]}"]) if words[0] == "found" else line
+
+
+def longer(v):
+    v.heading("longer jobs: exchange of rows 7 and 15, n = 4, m = 0: one gate of three controls; none within 0 gates, cost 8, depth 10")
+    v.search(job(ODD_TABLE, 1, **LONG))
+    for limit in (0, 2, 3):
+        v.search(job(ODD_TABLE, limit, **LONG))
+    v.search(job(ODD_TABLE, 1, cost=9, depth=11, **LONG))
+    v.search(job(ODD_TABLE, 2, cost=8, **LONG))
+    v.search(job(ODD_TABLE, 2, depth=10, **LONG))
+    v.search(job(ODD_TABLE, 3, free=1, **LONG))
+    v.search(job(ODD_TABLE, 12, **LONG), source="full")
+    v.heading("other odd tables on four data wires: of 3, 5 and 7 gates")
+    v.search(job(after([0x08, 0x67, 0x08], 4), 3, **LONG))
+    v.search(job(after([0x00, 0x20, 0x67, 0x00, 0x20], 4), 5, **LONG), source="max")
+    v.search(job([1, 0] + list(range(2, 16)), 7, **LONG), source="max")
+    v.search(job([1, 0] + list(range(2, 16)), 6, **LONG), source="max")
+    v.heading("the same exchange with an ancilla: by price one gate of three controls or three Toffolis")
+    for price in (9, 14, 15, 16):
+        v.search(job(ODD_TABLE, 3, m=1, prices=(1, 1, 5, price), durations=(1, 1, 7, 11)))
+    v.search(job(ODD_TABLE, 3, m=1, prices=(0, 0, 0, 0), durations=(1, 1, 7, 21)))
+    v.search(job(ODD_TABLE, 3, m=1, prices=(0, 0, 0, 1), durations=(1, 1, 1, 255)))
+    v.heading("each gate of three controls alone, on four wires and on five; on three data wires and an ancilla")
+    for gate in (0x0E, 0x2D, 0x4B, 0x67):
+        v.search(job(after([gate], 4), 1, **LONG))
+        v.search(job(after([gate], 4), 2, m=1, **LONG))
+    for gate in (0x0E, 0x2D, 0x4B):
+        v.search(job(after([0x60, gate, 0x60], 3, m=1), 3, m=1, prices=(0, 0, 9, 1), durations=(1, 1, 7, 11)))
+        v.search(job(after([gate], 3, m=1), 2, m=1, **LONG))
+    v.search(job(list(range(8)), 2, m=1, masks=[0] * 8, **LONG))
+    v.heading("answers without such a gate are marked too: document 01's samples with prices and durations of four kinds")
+    for n, m in ((3, 0), (3, 1), (4, 0), (4, 1)):
+        v.search(job(list(range(1 << n)), 1, m=m, **LONG))
+    v.search(job(SAMPLE_ROWS, 3, **LONG))
+    v.search(job(SAMPLE_ROWS, 2, **LONG))
+    v.search(job(SAMPLE_ROWS, 3, free=1, **LONG))
+    v.search(job(EXCHANGE_3_7, 1, **LONG))
+    v.search(job([0] * 8, 0, masks=[0] * 8, **LONG))
+    v.search(job([0] * 8, 2, m=1, **LONG))
+    v.heading("one gate of three controls for a longer list that is cheaper, and the other way round")
+    for prices in ((1, 1, 5, 9), (1, 1, 5, 255), (0, 0, 0, 1), (1, 1, 1, 0), (255, 255, 255, 255)):
+        v.search(job(after([0x43, 0x66, 0x43], 4), 4, prices=prices, durations=(1, 1, 7, 11)), source="full")
+
+
+def longer_refusals(v):
+    three, four = job(SAMPLE_ROWS, 3, **LONG), job(list(range(16)), 1, **LONG)
+    v.heading("1 for a longer job: lengths 21, 23, 29, 31")
+    v.search(three[:21])
+    v.search(three + b"\0")
+    v.search(four[:29])
+    v.search(four + b"\0")
+    v.heading("2: n = 4 with 22 bytes, n = 3 with 30; 3, 4, 5 (each duration), 6 (first row and last)")
+    for sound, other in ((three, 0x80), (four, 0x60)):
+        v.search(changed(sound, b0=other))
+        for low in (0x10, 0x01, 0x02):
+            v.search(changed(sound, b0=sound[0] | low))
+        v.search(changed(sound, b1=13))
+        for place in ("b10", "b11", "b12", "b13"):
+            v.search(changed(sound, **{place: 0}))
+        v.search(changed(sound, b14=0x01))
+        v.search(changed(sound, **{f"b{len(sound) - 1}": 0x08}))
+    v.heading("two rules broken: the earlier is told; 13 after the job's, before 14")
+    v.search(changed(three, b0=0x93))
+    v.search(changed(three, b0=0x70, b1=13))
+    v.search(changed(three, b1=13, b13=0))
+    v.search(changed(four, b13=0, b29=0x08))
+    v.search(changed(four, b29=0x08), 14)
+    v.search(three, 14)
+    v.search(job(ODD_TABLE, 0, **LONG), 14)
+    v.search(job(ODD_TABLE, 0, **LONG), 16)
+    v.search(job(ODD_TABLE, 1, **LONG), 64)
+
+
+def out_of_reach(v):
+    v.heading("shorter jobs, and longer ones whose fourth price is above the cost limit: the same but for the mark")
+    records = [bytes.fromhex(record) for record in PICKED + RANDOM[:40:4] + ANCILLA[:20:4]]
+    for record in records:
+        if record[1] <= 3:
+            shorter = record[:2] + min(int.from_bytes(record[2:4], "big"), 254).to_bytes(2, "big") + record[4:]
+            four = shorter[:9] + b"\xff" + shorter[9:12] + b"\x01" + shorter[12:]
+            assert v.solve(four, "brute") == marked(v.solve(shorter, "brute")), record.hex()
+            v.search(shorter)
+            v.search(four)
+
+
+def longer_random(v):
+    v.heading("random longer jobs")
+    for record in LONGER:
+        v.search(bytes.fromhex(record))
+    v.heading("longer jobs of real S-boxes: UBLOCK and GIFT at prices 1,1,5,9 and 1,1,1,1")
+    for prices in ((1, 1, 5, 9), (1, 1, 1, 1)):
+        for table, free in ((UBLOCK, 0), (GIFT, 1)):
+            v.search(job(table, 8, free=free, prices=prices, durations=(1, 1, 7, 11)), source="max")
+
+
 def sboxes(v):
     """Expected: plain.rs at its other level, which has rules that the program does not have."""
     v.heading("real S-boxes at gate limit 12: 8 gates, and LBLOCK with fixed layout 9; prices 1,1,1 and 1,1,5")
@@ -585,7 +739,7 @@ def main():
             subprocess.run(["rustc", "-O", "-o", programs[-1], os.path.join(args.bench, name + ".rs")], check=True)
         vectors = Vectors(*programs)
         for part in (samples, refusals, buffers, limits, order, care, layouts, ancillas, small_tables,
-                     random_jobs, sboxes):
+                     random_jobs, sboxes, longer, longer_refusals, out_of_reach, longer_random):
             part(vectors)
     for path, lines in ((args.data, vectors.calls), (args.stdout, vectors.lines)):
         os.makedirs(os.path.dirname(os.path.abspath(path)), exist_ok=True)

@@ -4,7 +4,9 @@
 
 writes DATA/NAME for every name, and into STDOUT the expected output of all of
 them, one after another in the order named. Names: jobs circuits counts running
-measuring verifying parity. Nothing is written unless `self_check` passes.
+measuring verifying parity longer marked. Nothing is written unless `self_check` passes.
+The test program goes on with the calls of search_vectors.py, whose lines follow,
+and with data/lines, which is written by hand.
 
 A data file has one call a line, its words one space apart. Byte strings are
 upper-case hexadecimal, the empty one is `-`. A line that starts with `#` is a
@@ -30,9 +32,12 @@ import reference as ref
 FILE_BELOW = 56 * 1024
 LINE_BELOW = 8000
 # The rules in the order in which they are asked; the first one broken is told.
-ORDER = [1, 2, 3, 4, 5, 6, 7, 8, 9, 10, 21, 12, 15, 16, 24, 17, 18, 19]
+ORDER = [1, 2, 3, 4, 5, 6, 7, 8, 9, 10, 21, 12, 28, 15, 16, 24, 17, 18, 19]
 SHAPES = [(3, 0), (3, 1), (4, 0), (4, 1)]       # n and m
 GATES = {wires: ref.gate_table(wires) for wires in (3, 4, 5)}
+MORE_GATES = {wires: ref.gate_table(wires, 3) for wires in (3, 4, 5)}
+# What makes a job a longer one: prices and durations of four kinds.
+LONG = dict(prices=(1, 1, 5, 9), durations=(1, 1, 7, 11))
 
 # Tables printed in source document 002, with their inversions and parity.
 TABLES_002 = [
@@ -83,8 +88,8 @@ class Draw:
     def among(self, items):
         return items[self.below(len(items))]
 
-    def gates(self, wires, count):
-        return bytes(self.among(GATES[wires]) for _ in range(count))
+    def gates(self, wires, count, table=GATES):
+        return bytes(self.among(table[wires]) for _ in range(count))
 
     def shuffled(self, items):
         items = list(items)
@@ -119,9 +124,9 @@ def exchanged(n, a, b):
     return full(values)
 
 
-def circuit(n, m, gates, layout=None):
+def circuit(n, m, gates, layout=None, mark=0):
     layout = ref.PLAIN_LAYOUT[n] if layout is None else layout
-    return bytes([n << 5 | m << 3, layout, len(gates)]) + bytes(gates)
+    return bytes([n << 5 | m << 3 | mark, layout, len(gates)]) + bytes(gates)
 
 
 def outputs(n, gates, layout):
@@ -206,30 +211,37 @@ J3 = bytes.fromhex("6003FFFFFFFF0101050101077072717374767577")
 J4 = job(4, full(GIFT))
 C3 = bytes.fromhex("601803022102")
 C5 = bytes.fromhex("881B03837483")
+# The same for longer jobs and marked circuits.
+L3 = job(3, full([0, 2, 1, 3, 4, 6, 5, 7]), gates=3, **LONG)
+L4 = job(4, full(GIFT), **LONG)
+M4 = bytes.fromhex("811B03670067")
+M5 = bytes.fromhex("891B0383748E")
 
 
 # ---- one rule broken at a time, in several ways ---------------------------
 
-def job_breaks(n):
-    """For each code, ways to turn a sound job into one that breaks the rule."""
-    row = 12 + 2 ** n // 2
+def job_breaks(n, kinds=3):
+    """For each code, ways to turn a sound job into one that breaks the rule.
+    A longer job has prices and durations of four kinds."""
+    first, row = 6 + kinds, 6 + 2 * kinds + 2 ** n // 2
     rows = (0x01, 0x61, 0x80, 0x08) if n == 3 else (0x01, 0x61, 0xB4, 0x08)
     return {
         1: [lambda j: j[:-1], lambda j: j + b"\0"],
         2: [lambda j, v=v: put(j, 0, j[0] & 31 | v << 5) for v in (7 - n, 7)],
         3: [lambda j, v=v: put(j, 0, j[0] & 0xE4 | v) for v in (16, 1, 2, 27)],
         4: [lambda j, v=v: put(j, 1, v) for v in (13, 255)],
-        5: [lambda j, at=at: put(j, at, 0) for at in (9, 10, 11)],
+        5: [lambda j, at=at: put(j, at, 0) for at in range(first, first + kinds)],
         6: [lambda j, v=v: put(j, row, v) for v in rows],
     }
 
 
-def circuit_breaks(n, m):
+def circuit_breaks(n, m, mark=0):
     """The same for a circuit of three gates or more. The number 11 is unused."""
     layouts = (0x00, 0x1B, 0x3C, 0x19) if n == 3 else (0x00, 0x18, 0x1A, 0x5B)
-    firsts = (0x20, n << 5 | 16, n << 5 | 1, n << 5 | 12)
+    firsts = (0x20 | mark, n << 5 | 16 | mark, n << 5 | 2 | mark, n << 5 | 12 | mark)
     three_controls = 0x67 if n + m > 3 else 0x47
-    gates = (0x22, (n + m) << 5, three_controls, 0xE0)
+    four_controls = 0x8F if n + m > 4 else 0x6F
+    gates = (0x22, (n + m) << 5, four_controls if mark else three_controls, 0xE0)
     return {
         7: [lambda c: c[:2] + bytes([13]) + (c[3:] * 5)[:13],
             lambda c: c + b"\0" * 13],
@@ -268,7 +280,8 @@ def job_lengths(calls):
     for sound, size in ((J3, 20), (J4, 28)):
         longer = sound + own(4) + own(3)
         for length in range(41):
-            want = "sound" if length == size else 2 if length in (20, 28) else 1
+            want = {size: "sound", size + 2: 6 if size == 20 else "sound",
+                    48 - size: 2, 50 - size: 2}.get(length, 1)
             calls.add(want, "job", longer[:length])
     calls.heading("job: lengths that are right but for 256, and 3000 bytes")
     calls.add(1, "job", J3 + b"\x77" * 256)
@@ -370,7 +383,7 @@ def circuit_head(calls):
     calls.heading("circuit: every byte 0")
     for byte in range(256):
         plain = 0x18 if byte < 0x80 else 0x1B
-        sound = byte in (0x60, 0x68, 0x80, 0x88)
+        sound = byte & 0xFE in (0x60, 0x68, 0x80, 0x88)      # the lowest bit is the mark
         calls.add("sound" if sound else 8, "circuit", bytes([byte, plain, 0]))
     calls.heading("circuit: every layout; with an ancilla, all that leave out output 3")
     for n, m, each in ((3, 0, 1), (4, 0, 1), (3, 1, 4)):
@@ -399,10 +412,10 @@ def circuit_counts(calls):
             calls.add(" ".join(["codes"] + [str(code) for code in want]), "every", record)
 
 
-def built_gates(wires):
+def built_gates(wires, most=2):
     """The lawful bytes once more, put together instead of sieved."""
     return {target << 5 | sum(1 << control for control in controls)
-            for target in range(wires) for size in (0, 1, 2)
+            for target in range(wires) for size in range(most + 1)
             for controls in itertools.combinations(set(range(wires)) - {target}, size)}
 
 
@@ -529,14 +542,14 @@ def run_lists(calls):
 
 # ---- what measuring and verifying have in common --------------------------
 
-def exact_pair(n, m, gates, layout=None, free=0, **fields):
+def exact_pair(n, m, gates, layout=None, free=0, mark=0, **fields):
     """A circuit, and the job that it passes with nothing to spare."""
     layout = ref.PLAIN_LAYOUT[n] if layout is None else layout
     sample = ref.read_job(job(n, own(n), **fields))
     got = ref.measures_of(gates, sample.prices, sample.durations)
     asked = job(n, full(outputs(n, gates, layout)), m, free,
                 got.gates, got.cost, got.depth, **fields)
-    return asked, circuit(n, m, gates, layout)
+    return asked, circuit(n, m, gates, layout, mark)
 
 
 def limits_of(asked):
@@ -551,22 +564,25 @@ def with_limit(asked, which, value):
     return asked[:at] + value.to_bytes(2, "big") + asked[at + 2:]
 
 
-def pair_breaks(n, m):
+def pair_breaks(n, m, mark=0):
     """Code by code, how to break a pair made by `exact_pair` with the plain
     layout. Code 15 makes its own table, so that it stands alone; it has to be
-    broken before the others."""
+    broken before the others. A marked pair has a longer job, to which nothing
+    is 28."""
     breaks = {}
-    for code, ways in job_breaks(n).items():
+    for code, ways in job_breaks(n, 3 + mark).items():
         breaks[code] = lambda j, c, way=ways[0]: (way(j), c)
-    for code, ways in circuit_breaks(n, m).items():
+    for code, ways in circuit_breaks(n, m, mark).items():
         breaks[code] = lambda j, c, way=ways[0]: (j, way(c))
     if m == 0:
         breaks[12] = lambda j, c: (j, put(c, 0, c[0] ^ 8))
     else:
         breaks[12] = lambda j, c: (put(j, 0, j[0] ^ 8), c)
-    other = ref.layouts(n)[1]
-    breaks[15] = lambda j, c: (j[:12] + full(outputs(n, c[3:], other)), put(c, 1, other))
-    breaks[16] = lambda j, c: (put(j, 13, j[13] ^ 1), c)
+    if mark == 0:
+        breaks[28] = lambda j, c: (j, put(c, 0, c[0] | 1))
+    other, rows = ref.layouts(n)[1], 12 + 2 * mark
+    breaks[15] = lambda j, c: (j[:rows] + full(outputs(n, c[3:], other)), put(c, 1, other))
+    breaks[16] = lambda j, c: (put(j, rows + 1, j[rows + 1] ^ 1), c)
     if m == 1:      # another product added to the ancilla last; unlawful gates stay
         breaks[24] = lambda j, c: (j, put(c, len(c) - 1, 0x85) if c[-1] == 0x83 else c)
     for which in range(3):
@@ -578,19 +594,24 @@ def pair_breaks(n, m):
 def broken(pair, breaks, codes):
     """The pair with several rules broken at once."""
     asked, given = pair
-    for code in sorted(codes, key=lambda code: code != 15):
+    for code in sorted(codes, key=lambda code: (code == 28, code != 15)):
         asked, given = breaks[code](asked, given)
     return asked, given
 
 
-def pair_order(calls, name, asked):
+PAIRS = ((3, 0, "022143", False), (4, 1, "837483", True))
+MARKED_PAIRS = ((4, 0, "006743", True), (4, 1, "8E1C8E837483", True))
+
+
+def pair_order(calls, name, asked, pairs=PAIRS, mark=0):
     """Each rule broken alone, then two at once (all twos, or neighbours only),
     then all from one on. Codes 4 and 17 do not go together: a gate limit above
-    12 is never missed by a sound circuit. Code 24 wants an ancilla."""
+    12 is never missed by a sound circuit. Code 24 wants an ancilla. A circuit
+    breaks 8 or 21 where its mark counts, so the mark comes on last."""
     calls.heading(name + ": one rule broken, two, and all from one on")
-    for n, m, gates, neighbours_only in ((3, 0, "022143", False), (4, 1, "837483", True)):
-        pair = exact_pair(n, m, bytes.fromhex(gates))
-        breaks = pair_breaks(n, m)
+    for n, m, gates, neighbours_only in pairs:
+        pair = exact_pair(n, m, bytes.fromhex(gates), mark=mark, **(LONG if mark else {}))
+        breaks = pair_breaks(n, m, mark)
         calls.add(within(limits_of(pair[0])), name, *pair)
         codes = [code for code in asked if code in breaks]
         ones = [(code,) for code in codes]
@@ -698,7 +719,7 @@ def measure_drawn(calls):
 
 def measure_refused(calls):
     pair_shapes(calls, "measure")
-    pair_order(calls, "measure", [1, 2, 3, 4, 5, 6, 7, 8, 9, 10, 21, 12])
+    pair_order(calls, "measure", ORDER[:ORDER.index(15)])
     pair_lengths(calls, "measure")
 
 
@@ -965,6 +986,205 @@ def parity_refused(calls):
         calls.add(1, "parity", record)
 
 
+# ---- longer jobs and marked circuits --------------------------------------
+
+def longer_jobs(calls):
+    calls.heading("longer job: lengths 0 to 40, cut from or grown from sound ones")
+    for sound, size in ((L3, 22), (L4, 30)):
+        grown = sound + own(4) + own(3)
+        for length in range(41):
+            want = {size: "sound", size - 2: 6, 50 - size: 2, 52 - size: 2}.get(length, 1)
+            calls.add(want, "job", grown[:length])
+    calls.heading("longer job: byte 0, each n, then each m, layout bit and pair of last bits")
+    for sound, right in ((L3, 3), (L4, 4)):
+        for n in range(8):
+            calls.add("sound" if n == right else 2, "job", put(sound, 0, n << 5))
+        for low in range(32):
+            want = 3 if low >= 16 or low & 3 else "sound"
+            calls.add(want, "job", put(sound, 0, right << 5 | low))
+    calls.heading("longer job: gate limits, every pattern of durations, prices at their ends")
+    for sound in (L3, L4):
+        for limit in (0, 12, 13, 255):
+            calls.add("sound" if limit <= 12 else 4, "job", put(sound, 1, limit))
+        for durations in itertools.product((0, 1), repeat=4):
+            calls.add(5 if 0 in durations else "sound", "job", sound[:10] + bytes(durations) + sound[14:])
+        for at, value in itertools.product(range(6, 10), (0, 255)):
+            calls.add("sound", "job", put(sound, at, value))
+    calls.heading("longer job: a bad row at the beginning, in the middle, at the end")
+    for sound, rows, places in ((L3, (0x01, 0x08, 0x61, 0x80, 0xF7), (0, 4, 7)),
+                                (L4, (0x01, 0x08, 0xE1, 0xB4, 0x78), (0, 8, 15))):
+        for x, row in itertools.product(places, rows):
+            calls.add(6, "job", put(sound, 14 + x, row))
+    calls.heading("longer job: two rules broken, and all from one on")
+    for sound, n in ((L3, 3), (L4, 4)):
+        two_broken(calls, "job", sound, one_way(job_breaks(n, 4)))
+        rest_broken(calls, "job", sound, job_breaks(n, 4))
+
+
+def marked_circuits(calls):
+    calls.heading("marked circuit: lengths 0 to 20 with the count to match")
+    gates = (MORE_GATES[4] * 2)[:17]
+    for length in range(21):
+        want = "sound" if 3 <= length <= 15 else 7
+        calls.add(want, "circuit", circuit(4, 0, gates[:max(length - 3, 0)], mark=1)[:length])
+    calls.heading("marked circuit: some layouts, count bytes")
+    for n, m in SHAPES:
+        for layout in (0x00, 0x18, 0x1A, 0x1B, 0x24, 0xE4, 0xE5):
+            calls.add("sound" if layout in ref.layouts(n) else 9, "circuit", circuit(n, m, b"", layout, 1))
+        for count in (0, 1, 2, 12, 255):
+            calls.add("sound" if count == 1 else 10, "circuit", put(circuit(n, m, [0], mark=1), 2, count))
+    calls.heading("marked circuit: two rules broken, and all from one on")
+    for sound, n, m in ((M4, 4, 0), (M5, 4, 1)):
+        two_broken(calls, "circuit", sound, one_way(circuit_breaks(n, m, 1)))
+        rest_broken(calls, "circuit", sound, circuit_breaks(n, m, 1))
+
+
+def marked_gates(calls):
+    for n, m in SHAPES:
+        calls.heading("marked circuit: every byte as the only gate, n = %d, m = %d" % (n, m))
+        sound = built_gates(n + m, 3)
+        for gate in range(256):
+            calls.add("sound" if gate in sound else 21, "circuit", circuit(n, m, [gate], mark=1))
+    calls.heading("a gate of three controls in a marked circuit and in an unmarked one, first, in the middle, last")
+    for n, m, gate in ((3, 1, 0x67), (4, 0, 0x67), (4, 0, 0x0E), (4, 1, 0x67), (4, 1, 0x9C)):
+        gates = bytes(GATES[n + m][:12])
+        for at in (0, 5, 11):
+            sound = ref.lawful(gate, n + m, 3)
+            calls.add("sound" if sound else 21, "circuit", circuit(n, m, put(gates, at, gate), mark=1))
+            calls.add(21, "circuit", circuit(n, m, put(gates, at, gate)))
+
+
+def marked_runs(calls):
+    calls.heading("run: 67 exchanges 7 and 15; unmarked it is refused")
+    for value in range(16):
+        want = {7: 15, 15: 7}.get(value, value)
+        both_ways(calls, circuit(4, 0, [0x67], mark=1), [value], "value %02X" % want)
+    both_ways(calls, circuit(4, 0, [0x67]), [7], 21)
+    calls.heading("run: every gate of three controls on all ones, and less each wire; beyond the last value")
+    for n, m in ((3, 1), (4, 0), (4, 1)):
+        top = 2 ** (n + m)
+        for gate in MORE_GATES[n + m]:
+            if ref.kind_of(gate) == 3:
+                for value in [top - 1] + [top - 1 - (1 << wire) for wire in range(n + m)]:
+                    flips = all(ref.bit(value, wire) for wire in ref.controls_of(gate))
+                    calls.add("value %02X" % (value ^ flips << gate // 32), "forwards",
+                              circuit(n, m, [gate], mark=1), bytes([value]))
+        both_ways(calls, circuit(n, m, [0x67], mark=1), [top, 255], 20)
+    calls.heading("run: marked lists drawn at random, forwards, then backwards from there")
+    draw = Draw(7)
+    for n, m in SHAPES:
+        for length in (1, 3, 6, 9, 12):
+            gates = draw.gates(n + m, length, MORE_GATES)
+            value = draw.below(2 ** (n + m))
+            there = ref.run(gates, value)
+            calls.add("value %02X" % there, "forwards", circuit(n, m, gates, mark=1), bytes([value]))
+            calls.add("value %02X" % value, "backwards", circuit(n, m, gates, mark=1), bytes([there]))
+
+
+def marked_measures(calls):
+    calls.heading("measure: one gate of each kind, all prices and durations different")
+    different = dict(prices=(3, 50, 200, 9), durations=(4, 60, 210, 11))
+    for n, m in SHAPES:
+        for gate, want in ((0x00, (1, 3, 4)), (0x21, (1, 50, 60)), (0x43, (1, 200, 210)), (0x67, (1, 9, 11))):
+            if gate in MORE_GATES[n + m]:
+                asked = job(n, own(n), m, **different)
+                calls.add(within(want), "measure", asked, circuit(n, m, [gate], mark=1))
+                calls.add(21 if gate == 0x67 else within(want), "measure", asked, circuit(n, m, [gate]))
+    calls.heading("measure: gates of three controls wait for each other, and for whatever has a wire of theirs")
+    for n, m, gates, want in ((4, 0, "6700", "2 10 12 ready 12 11 11 11 0"), (4, 0, "0067", "2 10 12 ready 12 12 12 12 0"),
+                              (4, 1, "6780", "2 10 11 ready 11 11 11 11 1"), (4, 1, "8E67", "2 18 22 ready 22 22 22 22 11"),
+                              (4, 1, "8E00", "2 10 11 ready 1 11 11 11 11"), (3, 1, "6767", "2 18 22 ready 22 22 22 22 0")):
+        calls.add("within " + want, "measure", job(n, own(n), m, **LONG), circuit(n, m, bytes.fromhex(gates), mark=1))
+    calls.heading("measure: lists, prices and durations drawn at random")
+    draw = Draw(8)
+    for n, m in SHAPES:
+        for length in (2, 5, 8, 12):
+            prices = [draw.below(256) for _ in range(4)]
+            durations = [1 + draw.below(255) for _ in range(4)]
+            gates = draw.gates(n + m, length, MORE_GATES)
+            want = (length, sum(prices[ref.kind_of(gate)] for gate in gates), longest_chain(gates, durations))
+            calls.add(within(want), "measure", job(n, bytes(2 ** n), m, prices=prices, durations=durations),
+                      circuit(n, m, gates, mark=1))
+
+
+def marked_pairs(calls):
+    """Which circuit may go with which job, and in which order the rules are asked."""
+    for name in ("measure", "verify"):
+        calls.heading(name + ": marked or not, under a shorter job and under a longer one")
+        for (n, m), gates in itertools.product(SHAPES, (b"", [0x43], [0x43, 0x67])):
+            if 0x67 in gates and (n, m) == (3, 0):
+                continue
+            rows = full(outputs(n, gates, ref.PLAIN_LAYOUT[n]))
+            shorter, longer = job(n, rows, m), job(n, rows, m, **LONG)
+            dirty = name == "verify" and not ref.clean(gates, n)
+            passed = 24 if dirty else within(ref.measures_of(gates, *LONG.values()))
+            plain, marked = circuit(n, m, gates), circuit(n, m, gates, mark=1)
+            for asked, by_mark in ((shorter, 28), (longer, passed)):
+                calls.add(21 if 0x67 in gates else passed, name, asked, plain)
+                calls.add(by_mark, name, asked, marked)
+        calls.heading(name + ": 28 comes after 21 and 12, and before 15, 16, 24, 17, 18 and 19")
+        asked, given = exact_pair(3, 0, [0x43])
+        marked = put(given, 0, 0x61)
+        calls.add(28, name, asked, marked)
+        calls.add(21, name, asked, put(marked, 3, 0x22))
+        calls.add(12, name, asked, put(marked, 0, 0x69))
+        calls.add(12, name, job(4, own(4)), marked)
+        for worse, other in ((asked, put(marked, 1, 0x24)), (put(asked, 13, 0x70), marked),
+                             *((with_limit(asked, which, 0), marked) for which in range(3))):
+            calls.add(28, name, worse, other)
+        five = job(4, own(4), 1)
+        calls.add(28, name, five, circuit(4, 1, [0x80], mark=1))
+        if name == "verify":
+            calls.add(24, name, job(4, own(4), 1, **LONG), circuit(4, 1, [0x80], mark=1))
+    pair_order(calls, "measure", ORDER[:ORDER.index(15)], MARKED_PAIRS, 1)
+    pair_order(calls, "verify", ORDER, MARKED_PAIRS, 1)
+
+
+def marked_verified(calls):
+    calls.heading("verify: the exchange of rows 7 and 15 by one gate; by three with an ancilla, unmarked and marked")
+    swap = job(4, exchanged(4, 7, 15), gates=1, cost=9, depth=11, **LONG)
+    calls.add(within((1, 9, 11)), "verify", swap, bytes.fromhex("811B0167"))
+    calls.add(21, "verify", swap, bytes.fromhex("801B0167"))
+    calls.add(16, "verify", swap, bytes.fromhex("811B010E"))
+    for which, code in ((0, 17), (1, 18), (2, 19)):
+        calls.add(code, "verify", with_limit(swap, which, limits_of(swap)[which] - 1), bytes.fromhex("811B0167"))
+    calls.add(28, "verify", job(4, exchanged(4, 7, 15)), bytes.fromhex("811B0167"))
+    for given in ("881B03837483", "891B03837483"):
+        calls.add(within((3, 15, 21)), "verify", job(4, exchanged(4, 7, 15), 1, **LONG), bytes.fromhex(given))
+    calls.heading("verify: marked lists drawn at random, with the table that they make; then one bit turned")
+    draw = Draw(9)
+    for n, m in SHAPES:
+        for length in (0, 1, 4, 9, 12):
+            gates = draw.gates(n + m, length, MORE_GATES)
+            layout = draw.among(ref.layouts(n))
+            asked = job(n, full(outputs(n, gates, layout)), m, 1, **LONG)
+            given = circuit(n, m, gates, layout, 1)
+            passed = within(ref.measures_of(gates, *LONG.values()))
+            calls.add(passed if ref.clean(gates, n) else 24, "verify", asked, given)
+            calls.add(16, "verify", put(asked, 19, asked[19] ^ 1 << draw.below(n)), given)
+
+
+def longer_parity(calls):
+    calls.heading("parity: of longer jobs")
+    for n in (3, 4):
+        calls.add("even", "parity", job(n, own(n), **LONG))
+        calls.add("odd", "parity", job(n, exchanged(n, 1, 6), **LONG))
+        calls.add("neither", "parity", job(n, bytes(2 ** n), **LONG))
+        calls.add("neither", "parity", job(n, put(own(n), 0, own(n)[1]), **LONG))
+        for code, ways in job_breaks(n, 4).items():
+            calls.add(code, "parity", ways[-1](job(n, own(n), **LONG)))
+    for _, table, _, want in TABLES_002[:6]:
+        calls.add(want, "parity", job(4, full(table), **LONG))
+    calls.heading("parity: four wires; odd where the gates of three controls are odd in number")
+    draw = Draw(10)
+    lists = [[gate] for gate in MORE_GATES[4] if ref.kind_of(gate) == 3]
+    for gates in lists + [draw.gates(4, length, MORE_GATES) for length in (2, 5, 8, 12, 12, 30) * 6]:
+        threes = [gate for gate in gates if ref.kind_of(gate) == 3]
+        rows = full(outputs(4, gates, draw.among(ref.layouts(4))))
+        for fields in (LONG, {}):
+            calls.add("odd" if len(threes) % 2 else "even", "parity", job(4, rows, **fields))
+
+
 # ---- facts that the papers and the checklist state ------------------------
 
 def parity_by_cycles(values):
@@ -1001,20 +1221,22 @@ def check_gates():
         5: "00020406080A0C101214182021242528292C303134384041424348494A505152"
            "5860616263646566707172748081828384858688898A8C",
     }
-    for wires, size in ((3, 12), (4, 28), (5, 55)):
-        assert len(GATES[wires]) == size
+    for wires, size, more in ((3, 12, 12), (4, 28, 32), (5, 55, 75)):
+        assert len(GATES[wires]) == size and len(MORE_GATES[wires]) == more
         assert bytes(GATES[wires]).hex().upper() == stated[wires]
         assert set(GATES[wires]) == built_gates(wires)
+        assert set(MORE_GATES[wires]) == built_gates(wires, 3)
     assert [ref.step(0x43, v) for v in (3, 7, 5)] == [7, 3, 5]
     assert ref.step(0x21, 1) == 3
     assert not any(ref.lawful(0x22, wires) for wires in (3, 4, 5))
     assert len(ref.controls_of(0x67)) == 3
     assert not any(ref.lawful(0x67, wires) for wires in (3, 4, 5))
+    assert [ref.lawful(0x67, wires, 3) for wires in (3, 4, 5)] == [False, True, True]
     assert ref.lawful(0x60, 4) and not ref.lawful(0x60, 3)
     for wires in (3, 4, 5):
-        for gate in GATES[wires]:
+        for gate in MORE_GATES[wires]:
             values = [ref.step(gate, value) for value in range(2 ** wires)]
-            odd = wires == 3 and ref.kind_of(gate) == 2
+            odd = ref.kind_of(gate) == wires - 1
             assert ref.inversions(values) % 2 == odd
             for value, after in enumerate(values):      # q0 plus the product of the others
                 product = min([ref.bit(value, c) for c in ref.controls_of(gate)], default=1)
@@ -1069,7 +1291,7 @@ def check_refusals():
     assert sound3 == job(3, full([0, 2, 1, 3, 4, 6, 5, 7]), gates=3)
     assert answer("job " + word(sound3)) == answer("job " + word(sound4)) == "sound"
     assert answer("circuit " + word(given)) == "sound"
-    for length in (0, 19, 21, 22, 27, 29, 30):
+    for length in (0, 19, 21, 23, 27, 29, 31):
         refused(1, "job " + word((sound3 + sound4)[:length]))
     edits = [(2, 0, 0x80), (2, 0, 0x00), (2, 0, 0xE0), (2, 0, 0x93), (3, 0, 0x70), (3, 0, 0x61),
              (3, 0, 0x62), (4, 1, 13), (5, 9, 0), (5, 10, 0), (5, 11, 0),
@@ -1082,7 +1304,7 @@ def check_refusals():
     refused(3, "job " + word(put(put(sound3, 0, 0x70), 1, 13)))
     for length in (0, 1, 2, 16):
         refused(7, "circuit " + word((given + bytes(13))[:length]))
-    edits = [(8, 0, 0x20), (8, 0, 0x70), (8, 0, 0x61), (9, 1, 0x00), (9, 1, 0x19), (9, 1, 0x1B),
+    edits = [(8, 0, 0x20), (8, 0, 0x70), (8, 0, 0x62), (9, 1, 0x00), (9, 1, 0x19), (9, 1, 0x1B),
              (9, 1, 0x3C), (10, 2, 0), (10, 2, 2), (21, 3, 0x22), (21, 3, 0x67), (21, 3, 0x60),
              (21, 3, 0xE0)]
     for code, at, byte in edits:
@@ -1093,6 +1315,7 @@ def check_refusals():
     assert answer("verify %s %s" % (word(swap), word(given))) == "within 1 5 7 ready 7 7 7 0 0"
     for code, asked, other in (
             (12, swap, put(given, 0, 0x68)), (12, swap, circuit(4, 0, [0x43])),
+            (12, swap, put(given, 0, 0x69)), (28, swap, put(given, 0, 0x61)), (28, swap, put(put(given, 0, 0x61), 1, 0x24)),
             (15, swap, put(given, 1, 0x24)), (16, job(3, own(3), gates=0), given),
             (17, put(swap, 1, 0), given), (18, put(swap, 3, 4), given), (19, put(swap, 5, 6), given)):
         refused(code, "verify %s %s" % (word(asked), word(other)))
@@ -1125,6 +1348,8 @@ MAKERS = {
     "verifying": [verify_few, verify_limits, verify_rows, verify_layouts,
                   verify_drawn, verify_refused],
     "parity": [parity_tables, parity_made, parity_neither, parity_refused],
+    "longer": [longer_jobs, marked_measures, marked_pairs, marked_verified, longer_parity],
+    "marked": [marked_circuits, marked_gates, marked_runs],
 }
 
 

@@ -1,4 +1,4 @@
--- Gates are at most the wires times the depth, where every duration is at least 1: each gate moves the sum of the ready times on by at
+-- Gates are at most the wires times the depth, where every lawful gate has a duration of at least 1: each gate moves the sum of the ready times on by at
 -- least 1, and only the W wires of the list are ever held. So depth is never below the gates divided by the wires, rounded up.
 use mathlib.Core.Path.{_≡_, refl, sym, _∙_}
 use mathlib.Core.Bool.{Bool, true, false, not}
@@ -15,7 +15,7 @@ use Rattle.logic.specs.Lists.{allOf, total, along}
 use Rattle.logic.proofs.Chain.{both-left, both-right, implied}
 use Rattle.logic.proofs.Below.{below}
 use Rattle.gate.specs.Gates.{targetOf, lawful, gateOf}
-use Rattle.gate.proofs.Widen.{parts, lawful-lt}
+use Rattle.gate.proofs.Widen.{parts, any-controls, lawful-lt}
 use Rattle.circuit.specs.Measure.{hold, holdByte, idle, readyTimes, greatest, depth}
 use Rattle.circuit.proofs.Times.{Sooner, Until, holds, hold-at, hold-past, hold-rises, length-hold}
 use Rattle.circuit.proofs.Times.{until-greatest, wire-wise, start-after, idle-until}
@@ -55,7 +55,7 @@ abbrev free : ℕ → ℕ → ℕ → Bool
 free w b i = implies (leb w i) (not (holds (gateOf b) i))
 
 abbrev frees : ℕ → ℕ → Bool
-frees w b = implies (lawful 2 w b) (allBelow 5 (free w b))
+frees w b = implies (lawful 5 w b) (allBelow 5 (free w b))
 
 abbrev freesAll : ℕ → Bool
 freesAll w = allBelow 160 (frees w)
@@ -64,14 +64,14 @@ frees-all : allBelow 6 freesAll ≡ true
 unfolding lawful gateOf ones onesIn trailingZeros leadingZeros
 frees-all = refl
 
-module _ (w b : ℕ) (hw : w ≤ 5) (h : lawful 2 w b ≡ true) where
+module _ (k w b : ℕ) (hw : w ≤ 5) (h : lawful k w b ≡ true) where
   held-below : (i : ℕ) → w ≤ i → i < 5 → holds (gateOf b) i ≡ false
   held-below i hi h5 =
       not-true (holds (gateOf b) i)
       (implied (leb w i) (not (holds (gateOf b) i))
       (below 5 (free w b)
-      (implied (lawful 2 w b) (allBelow 5 (free w b))
-      (below 160 (frees w) (below 6 freesAll frees-all w (omega arith)) b (lawful-lt 2 w b hw h)) h)
+      (implied (lawful 5 w b) (allBelow 5 (free w b))
+      (below 160 (frees w) (below 6 freesAll frees-all w (omega arith)) b (lawful-lt k w b hw h)) (any-controls k w b hw h))
       i h5)
       (le-leb w i hi))
 
@@ -87,50 +87,50 @@ module _ (w b : ℕ) (hw : w ≤ 5) (h : lawful 2 w b ≡ true) where
     moves : sum ts + d ≤ sum (hold (gateOf b) d ts)
     unfolding gateOf
     moves =
-        let t : targetOf b < length ts = rw l (omega (arith, parts 2 w b h .target)) in
+        let t : targetOf b < length ts = rw l (omega (arith, parts k w b h .target)) in
         let s : holds (gateOf b) (targetOf b) ≡ true = rw (eq-eqb (targetOf b) (targetOf b) refl) in
         sum-later ts (hold (gateOf b) d ts) d (targetOf b) (sym (length-hold (gateOf b) d ts)) (hold-rises (gateOf b) d ts) t
         (rw (hold-at (gateOf b) d ts (targetOf b) t, s) (omega (arith, start-after (gateOf b) ts (targetOf b) s)))
 
-module _ (duration : ℕ → ℕ) (w : ℕ) (hw : w ≤ 5) where
-  quiet-run : (gs ts : List ℕ) → allOf (lawful 2 w) gs ≡ true → length ts ≡ 5 → ((i : ℕ) → w ≤ i → getD ts i 0 ≡ 0)
+module _ (duration : ℕ → ℕ) (k w : ℕ) (hw : w ≤ 5) where
+  quiet-run : (gs ts : List ℕ) → allOf (lawful k w) gs ≡ true → length ts ≡ 5 → ((i : ℕ) → w ≤ i → getD ts i 0 ≡ 0)
       → (i : ℕ) → w ≤ i → getD (along (holdByte duration) gs ts) i 0 ≡ 0
   unfolding allOf along
   quiet-run [] ts h l z = z
   quiet-run (b ∷ gs) ts h l z =
-      let hb = both-left (lawful 2 w b) (allOf (lawful 2 w) gs) h in
-      quiet-run gs (holdByte duration b ts) (both-right (lawful 2 w b) (allOf (lawful 2 w) gs) h)
+      let hb = both-left (lawful k w b) (allOf (lawful k w) gs) h in
+      quiet-run gs (holdByte duration b ts) (both-right (lawful k w b) (allOf (lawful k w) gs) h)
       (length-hold (gateOf b) (duration b) ts ∙ l)
-      (quiet w b hw hb (duration b) ts l z)
+      (quiet k w b hw hb (duration b) ts l z)
 
   -- wires from w on are ready from the start: no gate of w wires holds them
-  pub quiet-ready : (gs : List ℕ) → allOf (lawful 2 w) gs ≡ true → (i : ℕ) → w ≤ i → getD (readyTimes duration gs) i 0 ≡ 0
+  pub quiet-ready : (gs : List ℕ) → allOf (lawful k w) gs ≡ true → (i : ℕ) → w ≤ i → getD (readyTimes duration gs) i 0 ≡ 0
   quiet-ready gs h = quiet-run gs idle h refl (λ i hi. omega (arith, idle-until i))
 
-module _ (duration : ℕ → ℕ) (slow : (b : ℕ) → 1 ≤ duration b) (w : ℕ) (hw : w ≤ 5) where
-  sum-grows : (gs ts : List ℕ) → allOf (lawful 2 w) gs ≡ true → length ts ≡ 5 → sum ts + length gs ≤ sum (along (holdByte duration) gs ts)
+module _ (duration : ℕ → ℕ) (k w : ℕ) (slow : (b : ℕ) → lawful k w b ≡ true → 1 ≤ duration b) (hw : w ≤ 5) where
+  sum-grows : (gs ts : List ℕ) → allOf (lawful k w) gs ≡ true → length ts ≡ 5 → sum ts + length gs ≤ sum (along (holdByte duration) gs ts)
   unfolding allOf along
   sum-grows [] ts h l = omega arith
   sum-grows (b ∷ gs) ts h l =
-      let hb = both-left (lawful 2 w b) (allOf (lawful 2 w) gs) h in
+      let hb = both-left (lawful k w b) (allOf (lawful k w) gs) h in
       omega (
         arith,
-        slow b,
-        moves w b hw hb (duration b) ts l,
-        sum-grows gs (holdByte duration b ts) (both-right (lawful 2 w b) (allOf (lawful 2 w) gs) h)
+        slow b hb,
+        moves k w b hw hb (duration b) ts l,
+        sum-grows gs (holdByte duration b ts) (both-right (lawful k w b) (allOf (lawful k w) gs) h)
             (length-hold (gateOf b) (duration b) ts ∙ l),
       )
 
-  pub gates-by-depth : (gs : List ℕ) → allOf (lawful 2 w) gs ≡ true → length gs ≤ w * depth duration gs
+  pub gates-by-depth : (gs : List ℕ) → allOf (lawful k w) gs ≡ true → length gs ≤ w * depth duration gs
   gates-by-depth gs h =
       let r = readyTimes duration gs in
       omega (
         arith,
         sum-grows gs idle h refl,
-        sum-within r w (greatest r) (until-greatest r) (quiet-ready duration w hw gs h),
+        sum-within r w (greatest r) (until-greatest r) (quiet-ready duration k w hw gs h),
       )
 
-  pub depth-least : (gs : List ℕ) → 0 < w → allOf (lawful 2 w) gs ≡ true → roundedUp (length gs) w ≤ depth duration gs
+  pub depth-least : (gs : List ℕ) → 0 < w → allOf (lawful k w) gs ≡ true → roundedUp (length gs) w ≤ depth duration gs
   depth-least gs pos h =
       let d = depth duration gs in
       le-of-suc-le-suc (div-lt-iff-lt-mul pos .1 (omega (arith, gates-by-depth gs h, mul-comm w d, suc-mul d w)))

@@ -37,14 +37,14 @@ module _ (k w : ℕ) where
       let hs = both-right (lawful k w b) (allOf (lawful k w) gs) h in
       ap (step b) (undone gs (step b v) hw hs (stay k w b v hb hv)) ∙ undo k w b v hw hb hv
 
-pub rows-run : (gs cs : List ℕ) (x v : ℕ) → allOf (lawful 2 5) gs ≡ true → length cs ≡ 5 → x < 16 → v < 32 → Row cs x v
+pub rows-run : (gs cs : List ℕ) (x v : ℕ) → allOf (lawful 3 5) gs ≡ true → length cs ≡ 5 → x < 16 → v < 32 → Row cs x v
     → Row (columnsAfter gs cs) x (forwards gs v)
 unfolding allOf along
 rows-run [] cs x v h hl hx hv r = r
 rows-run (b ∷ gs) cs x v h hl hx hv r =
-    let hb = both-left (lawful 2 5 b) (allOf (lawful 2 5) gs) h in
-    rows-run gs (columnStep (gateOf b) cs) x (step b v) (both-right (lawful 2 5 b) (allOf (lawful 2 5) gs) h)
-    (length-step (gateOf b) cs ∙ hl) hx (stay 2 5 b v hb hv) (row-step cs x v hx r b hb hl hv)
+    let hb = both-left (lawful 3 5 b) (allOf (lawful 3 5) gs) h in
+    rows-run gs (columnStep (gateOf b) cs) x (step b v) (both-right (lawful 3 5 b) (allOf (lawful 3 5) gs) h)
+    (length-step (gateOf b) cs ∙ hl) hx (stay 3 5 b v hb hv) (row-step cs x v hx r b hb hl hv)
 
 pub columns-length : (gs cs : List ℕ) → length (columnsAfter gs cs) ≡ length cs
 unfolding along

@@ -18,7 +18,7 @@ use Rattle.logic.proofs.Members.{spelled}
 use Rattle.logic.proofs.Chain.{either-cases}
 use Rattle.gate.specs.declared.Gate.{Gate}
 use Rattle.gate.specs.declared.Kind.{Kind}
-use Rattle.gate.specs.declared.Kind.the-variants.{Not, Cnot, Toffoli}
+use Rattle.gate.specs.declared.Kind.the-variants.{Not, Cnot, Toffoli, Cccnot}
 use Rattle.gate.specs.Gates.{gateOf}
 use Rattle.circuit.specs.Measure.{controlsReady, start, holdControls, hold, holdByte, greatest, idle}
 
@@ -27,6 +27,7 @@ abbrev holdsControl : Kind → ℕ → Bool
 holdsControl Not w = false
 holdsControl (Cnot a) w = eqb w a
 holdsControl (Toffoli a b) w = either (eqb w b) (eqb w a)
+holdsControl (Cccnot a b c) w = either (eqb w c) (either (eqb w b) (eqb w a))
 
 abbrev pub holds : Gate → ℕ → Bool
 holds g w = either (eqb w (g .target)) (holdsControl (g .kind) w)
@@ -35,6 +36,7 @@ length-controls : (k : Kind) (e : ℕ) (ts : List ℕ) → length (holdControls 
 length-controls Not e ts = refl
 length-controls (Cnot a) e ts = length-set ts a e
 length-controls (Toffoli a b) e ts = simp length-set
+length-controls (Cccnot a b c) e ts = simp length-set
 
 pub length-hold : (g : Gate) (d : ℕ) (ts : List ℕ) → length (hold g d ts) ≡ length ts
 unfolding hold
@@ -45,24 +47,30 @@ nested : (s t : Bool) (e x : ℕ) → pick s e (pick t e x) ≡ pick (either s t
 nested true t e x = refl
 nested false t e x = refl
 
+-- one wire more is held
+held-at : (us : List ℕ) (a e w x : ℕ) (t : Bool) → w < length us → getD us w 0 ≡ pick t e x
+    → getD (set us a e) w 0 ≡ pick (either (eqb w a) t) e x
+held-at us a e w x t h q = set-at us a e w h ∙ ap (pick (eqb w a) e) q ∙ nested (eqb w a) t e x
+
 controls-at : (k : Kind) (e : ℕ) (ts : List ℕ) (w : ℕ) → w < length ts
     → getD (holdControls k e ts) w 0 ≡ pick (holdsControl k w) e (getD ts w 0)
 controls-at Not e ts w h = refl
 controls-at (Cnot a) e ts w h = set-at ts a e w h
 controls-at (Toffoli a b) e ts w h =
-    set-at (set ts a e) b e w (rw (length-set ts a e) h)
-    ∙ ap (pick (eqb w b) e) (set-at ts a e w h)
-    ∙ nested (eqb w b) (eqb w a) e (getD ts w 0)
+    held-at (set ts a e) b e w (getD ts w 0) (eqb w a) (rw (length-set ts a e) h) (set-at ts a e w h)
+controls-at (Cccnot a b c) e ts w h =
+    let i : w < length (set ts a e) = rw (length-set ts a e) h in
+    held-at (set (set ts a e) b e) c e w (getD ts w 0) (either (eqb w b) (eqb w a)) (rw (length-set (set ts a e) b e) i)
+    (held-at (set ts a e) b e w (getD ts w 0) (eqb w a) i (set-at ts a e w h))
 
 -- the wires that a gate holds become ready at its end, the others stay
 pub hold-at : (g : Gate) (d : ℕ) (ts : List ℕ) (w : ℕ) → w < length ts
     → getD (hold g d ts) w 0 ≡ pick (holds g w) (start g ts + d) (getD ts w 0)
 unfolding hold
 hold-at g d ts w h =
-    set-at (holdControls (g .kind) (start g ts + d) ts) (g .target)
-    (start g ts + d) w (rw (length-controls (g .kind) (start g ts + d) ts) h)
-    ∙ ap (pick (eqb w (g .target)) (start g ts + d)) (controls-at (g .kind) (start g ts + d) ts w h)
-    ∙ nested (eqb w (g .target)) (holdsControl (g .kind) w) (start g ts + d) (getD ts w 0)
+    let e = start g ts + d in
+    held-at (holdControls (g .kind) e ts) (g .target) e w (getD ts w 0) (holdsControl (g .kind) w) (rw (length-controls (g .kind) e ts) h)
+    (controls-at (g .kind) e ts w h)
 
 pub hold-past : (g : Gate) (d : ℕ) (ts : List ℕ) (w : ℕ) → length ts ≤ w → getD (hold g d ts) w 0 ≡ 0
 hold-past g d ts w h = List·getD-eq-default (hold g d ts) 0 (rw (length-hold g d ts) h)
@@ -82,6 +90,7 @@ start-until g m ts h = by-kind (g .kind)
     by-kind Not = omega (arith, h (g .target))
     by-kind (Cnot a) = omega (arith, h (g .target), h a)
     by-kind (Toffoli a b) = omega (arith, h (g .target), h a, h b)
+    by-kind (Cccnot a b c) = omega (arith, h (g .target), h a, h b, h c)
 
 -- a gate starts when all its wires are ready
 pub start-after : (g : Gate) (ts : List ℕ) (w : ℕ) → holds g w ≡ true → getD ts w 0 ≤ start g ts
@@ -92,12 +101,17 @@ start-after g ts w h =
     same : {m : ℕ} (i : ℕ) → w ≡ i → getD ts i 0 ≤ m → getD ts w 0 ≤ m
     same i e h = rw e h
 
+    one-of-two : {m : ℕ} (a b : ℕ) → getD ts a 0 ≤ m → getD ts b 0 ≤ m → either (eqb w b) (eqb w a) ≡ true → getD ts w 0 ≤ m
+    one-of-two a b ha hb e =
+        ⊎-elim (λ e. same b (eqb-true w b e) hb) (λ e. same a (eqb-true w a e) ha) (either-cases (eqb w b) (eqb w a) e)
+
     by-kind : (k : Kind) → holdsControl k w ≡ true → getD ts w 0 ≤ max (getD ts (g .target) 0) (controlsReady k ts)
     by-kind Not e = absurd (false≢true e)
     by-kind (Cnot a) e = same a (eqb-true w a e) (omega arith)
-    by-kind (Toffoli a b) e =
-        ⊎-elim (λ e. same b (eqb-true w b e) (omega arith)) (λ e. same a (eqb-true w a e) (omega arith))
-        (either-cases (eqb w b) (eqb w a) e)
+    by-kind (Toffoli a b) e = one-of-two a b (omega arith) (omega arith) e
+    by-kind (Cccnot a b c) e =
+        ⊎-elim (λ e. same c (eqb-true w c e) (omega arith)) (λ e. one-of-two a b (omega arith) (omega arith) e)
+        (either-cases (eqb w c) (either (eqb w b) (eqb w a)) e)
 
 -- every wire of the list, or none past its end
 pub wire-wise : {P : ℕ → Type 0} (ts : List ℕ) → ((w : ℕ) → w < length ts → P w) → ((w : ℕ) → length ts ≤ w → P w) → (w : ℕ) → P w

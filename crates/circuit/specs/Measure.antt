@@ -6,7 +6,7 @@ use lib.ListN.{getD, set}
 use Rattle.logic.specs.Lists.{total, along}
 use Rattle.gate.specs.declared.Gate.{Gate}
 use Rattle.gate.specs.declared.Kind.{Kind}
-use Rattle.gate.specs.declared.Kind.the-variants.{Not, Cnot, Toffoli}
+use Rattle.gate.specs.declared.Kind.the-variants.{Not, Cnot, Toffoli, Cccnot}
 use Rattle.gate.specs.Gates.{gateOf}
 use Rattle.circuit.specs.declared.Weights.{Weights}
 
@@ -15,6 +15,7 @@ abbrev pub weightFor : Weights → Kind → ℕ
 weightFor ws Not = ws .not
 weightFor ws (Cnot a) = ws .cnot
 weightFor ws (Toffoli a b) = ws .toffoli
+weightFor ws (Cccnot a b c) = ws .cccnot
 
 unfoldable pub weightOf : Weights → ℕ → ℕ
 weightOf ws b = weightFor ws (gateOf b .kind)
@@ -28,6 +29,7 @@ abbrev pub controlsReady : Kind → List ℕ → ℕ
 controlsReady Not ts = 0
 controlsReady (Cnot a) ts = getD ts a 0
 controlsReady (Toffoli a b) ts = max (getD ts a 0) (getD ts b 0)
+controlsReady (Cccnot a b c) ts = max (max (getD ts a 0) (getD ts b 0)) (getD ts c 0)
 
 abbrev pub start : Gate → List ℕ → ℕ
 start g ts = max (getD ts (g .target) 0) (controlsReady (g .kind) ts)
@@ -37,6 +39,7 @@ abbrev pub holdControls : Kind → ℕ → List ℕ → List ℕ
 holdControls Not e ts = ts
 holdControls (Cnot a) e ts = set ts a e
 holdControls (Toffoli a b) e ts = set (set ts a e) b e
+holdControls (Cccnot a b c) e ts = set (set (set ts a e) b e) c e
 
 unfoldable pub hold : Gate → ℕ → List ℕ → List ℕ
 hold g d ts = set (holdControls (g .kind) (start g ts + d) ts) (g .target) (start g ts + d)

@@ -13,6 +13,7 @@ pub struct Weights {
     pub not: u8,
     pub cnot: u8,
     pub toffoli: u8,
+    pub cccnot: u8,
 }
 
 // The value of the wires after the list, first gate first.
@@ -48,6 +49,7 @@ fn weight_for(weights: Weights, kind: Kind) -> u8
         Kind::Not => weights.not,
         Kind::Cnot(_) => weights.cnot,
         Kind::Toffoli(_, _) => weights.toffoli,
+        Kind::Cccnot(_, _, _) => weights.cccnot,
     }
 }
 
@@ -87,6 +89,10 @@ fn controls_ready(kind: Kind, times: [u16; 5]) -> u16
         Kind::Not => 0,
         Kind::Cnot(a) => logic::cell(times, a),
         Kind::Toffoli(a, b) => later(logic::cell(times, a), logic::cell(times, b)),
+        Kind::Cccnot(a, b, c) => later(
+            later(logic::cell(times, a), logic::cell(times, b)),
+            logic::cell(times, c),
+        ),
     }
 }
 
@@ -97,6 +103,11 @@ fn hold_controls(kind: Kind, end: u16, times: [u16; 5]) -> [u16; 5]
         Kind::Not => times,
         Kind::Cnot(a) => logic::with_cell(times, a, end),
         Kind::Toffoli(a, b) => logic::with_cell(logic::with_cell(times, a, end), b, end),
+        Kind::Cccnot(a, b, c) => logic::with_cell(
+            logic::with_cell(logic::with_cell(times, a, end), b, end),
+            c,
+            end,
+        ),
     }
 }
 

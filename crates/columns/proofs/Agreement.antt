@@ -71,7 +71,7 @@ clear a b c ha hb hc =
     same-truth (test a b c) (rule a b c) (implied (test a b c) (rule a b c) (s .0)) (implied (rule a b c) (test a b c) (s .1))
 
 -- bit x of a wire's column is what the wire has at the end of row x
-module _ (gs : List ℕ) (hg : allOf (lawful 2 5) gs ≡ true) where
+module _ (gs : List ℕ) (hg : allOf (lawful 3 5) gs ≡ true) where
   wire-bit : (w x : ℕ) → w < 5 → x < 16 → bitOf x (getD (columnsAfter gs startColumns) w 0) ≡ bitOf w (forwards gs x)
   unfolding startColumns
   wire-bit w x hw hx = rows-run gs startColumns x x hg refl hx (omega arith) (start-row x hx) w hw
@@ -103,7 +103,7 @@ module _ (gs : List ℕ) (hg : allOf (lawful 2 5) gs ≡ true) where
       (λ (e : n ≡ 4). rw e (tidy-one 4 (lit< tt) (lit≤ tt) (lit< tt) refl))
       width
 
-module _ (rows gs : List ℕ) (few : length rows ≤ 16) (hg : allOf (lawful 2 5) gs ≡ true) (p : ℕ) where
+module _ (rows gs : List ℕ) (few : length rows ≤ 16) (hg : allOf (lawful 3 5) gs ≡ true) (p : ℕ) where
   wanted-bit : (care : Bool) (j x : ℕ) → j < 4 → x < length rows → bitOf x (getD (columnsOf care rows) j 0) ≡ rowBit care j (getD rows x 0)
   wanted-bit care j x h l = ap (bitOf x) (columns-at care rows j h) ∙ column-bit (rowBit care j) (row-bit-lt care j) rows x l
 

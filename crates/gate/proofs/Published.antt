@@ -1,4 +1,4 @@
--- Document 01's step is what source 003 prints, arm by arm: what a mask of at most two wires fires on is what its kind adds. On any value;
+-- Document 01's step is what source 003 prints, arm by arm: what a mask of at most three wires fires on is what its kind adds. On any value;
 -- both look at its lowest five bits only, so 32 masks on 32 values tell it.
 use mathlib.Core.Path.{_≡_, refl, sym, ap, ap₂, _∙_}
 use mathlib.Core.Bool.{Bool, true, false}
@@ -15,7 +15,7 @@ use Rattle.logic.specs.Bit.{bitOf}
 use Rattle.logic.proofs.Chain.{both-left, both-right, implied}
 use Rattle.logic.proofs.Below.{below}
 use Rattle.gate.specs.declared.Kind.{Kind}
-use Rattle.gate.specs.declared.Kind.the-variants.{Not, Cnot, Toffoli}
+use Rattle.gate.specs.declared.Kind.the-variants.{Not, Cnot, Toffoli, Cccnot}
 use Rattle.gate.specs.Gates.{targetOf, maskOf, lawful, fires, step, kindFor, gateOf}
 use Rattle.gate.specs.Published.{added, published}
 use Rattle.gate.proofs.Widen.{parts, widen, lawful-lt}
@@ -26,12 +26,13 @@ abbrev pub inside : Kind → Bool
 inside Not = true
 inside (Cnot a) = ltb a 5
 inside (Toffoli a b) = both (ltb a 5) (ltb b 5)
+inside (Cccnot a b c) = both (both (ltb a 5) (ltb b 5)) (ltb c 5)
 
 abbrev sameFire : ℕ → ℕ → Bool
 sameFire m v = eqb (bit (fires m v)) (added (kindFor (ones m) m) v)
 
 abbrev rightMask : ℕ → Bool
-rightMask m = implies (leb (ones m) 2) (both (inside (kindFor (ones m) m)) (allBelow 32 (sameFire m)))
+rightMask m = implies (leb (ones m) 3) (both (inside (kindFor (ones m) m)) (allBelow 32 (sameFire m)))
 
 right-masks : allBelow 32 rightMask ≡ true
 unfolding ones onesIn trailingZeros leadingZeros
@@ -49,16 +50,22 @@ bit-low (suc (suc (suc zero))) v h = omega arith
 bit-low (suc (suc (suc (suc zero)))) v h = omega arith
 bit-low (suc (suc (suc (suc (suc a))))) v h = absurd (omega arith)
 
+both-low : (a b v : ℕ) → both (ltb a 5) (ltb b 5) ≡ true → bitOf a v * bitOf b v ≡ bitOf a (v % 32) * bitOf b (v % 32)
+both-low a b v h =
+    ap₂ _*_ (bit-low a v (ltb-true a 5 (both-left (ltb a 5) (ltb b 5) h))) (bit-low b v (ltb-true b 5 (both-right (ltb a 5) (ltb b 5) h)))
+
 added-low : (k : Kind) (v : ℕ) → inside k ≡ true → added k v ≡ added k (v % 32)
 added-low Not v h = refl
 added-low (Cnot a) v h = bit-low a v (ltb-true a 5 h)
-added-low (Toffoli a b) v h =
-    ap₂ _*_ (bit-low a v (ltb-true a 5 (both-left (ltb a 5) (ltb b 5) h))) (bit-low b v (ltb-true b 5 (both-right (ltb a 5) (ltb b 5) h)))
+added-low (Toffoli a b) v h = both-low a b v h
+added-low (Cccnot a b c) v h =
+    let two = both (ltb a 5) (ltb b 5) in
+    ap₂ _*_ (both-low a b v (both-left two (ltb c 5) h)) (bit-low c v (ltb-true c 5 (both-right two (ltb c 5) h)))
 
-fire-bit : (m v : ℕ) → m < 32 → ones m ≤ 2 → bit (fires m v) ≡ added (kindFor (ones m) m) v
+fire-bit : (m v : ℕ) → m < 32 → ones m ≤ 3 → bit (fires m v) ≡ added (kindFor (ones m) m) v
 fire-bit m v hm few =
     let k = kindFor (ones m) m in
-    let r = implied (leb (ones m) 2) (both (inside k) (allBelow 32 (sameFire m))) (below 32 rightMask right-masks m hm) (le-leb (ones m) 2 few) in
+    let r = implied (leb (ones m) 3) (both (inside k) (allBelow 32 (sameFire m))) (below 32 rightMask right-masks m hm) (le-leb (ones m) 3 few) in
     let s = below 32 (sameFire m) (both-right (inside k) (allBelow 32 (sameFire m)) r) (v % 32) (omega arith) in
     ap (λ (x : ℕ). bit (eqb x m)) (and-low m v hm)
     ∙ eqb-true (bit (fires m (v % 32))) (added k (v % 32)) s
@@ -68,8 +75,8 @@ flipped : (f : Bool) (v t : ℕ) → pick f (bitXor v (2 ^ t)) v ≡ bitXor v (b
 flipped true v t = ap (bitXor v) (omega arith)
 flipped false v t = sym (ap (bitXor v) (omega arith) ∙ xor-zero-r v)
 
--- the step of a gate of at most two controls, as one exclusive or at its target
-pub by-kind : (b v : ℕ) → ones (maskOf b) ≤ 2 → step b v ≡ bitXor v (added (kindFor (ones (maskOf b)) (maskOf b)) v * 2 ^ targetOf b)
+-- the step of a gate of at most three controls, as one exclusive or at its target
+pub by-kind : (b v : ℕ) → ones (maskOf b) ≤ 3 → step b v ≡ bitXor v (added (kindFor (ones (maskOf b)) (maskOf b)) v * 2 ^ targetOf b)
 unfolding step
 by-kind b v few =
     flipped (fires (maskOf b) v) v (targetOf b) ∙ ap (λ (x : ℕ). bitXor v (x * 2 ^ targetOf b)) (fire-bit (maskOf b) v (omega arith) few)
@@ -81,7 +88,7 @@ product-lt (suc zero) y hx hy = omega arith
 product-lt (suc (suc x)) y hx hy = absurd (omega arith)
 
 -- an arm of the step: what it adds is what n controls add
-pub arm : (b v x n r : ℕ) → x ≡ b → n ≤ 2 → ones (maskOf b) ≡ n → r ≡ bitXor v (added (kindFor n (maskOf b)) v * 2 ^ (x / 32)) → r ≡ step b v
+pub arm : (b v x n r : ℕ) → x ≡ b → n ≤ 3 → ones (maskOf b) ≡ n → r ≡ bitXor v (added (kindFor n (maskOf b)) v * 2 ^ (x / 32)) → r ≡ step b v
 arm b v x n r e few h q =
     q
     ∙ ap (λ (y : ℕ). bitXor v (added (kindFor n (maskOf b)) v * 2 ^ (y / 32))) e
@@ -94,17 +101,17 @@ abbrev rightBits : ℕ → ℕ → Bool
 rightBits b v = allBelow 5 (rightBit b v)
 
 abbrev rightGate : ℕ → Bool
-rightGate b = implies (lawful 2 5 b) (both (inside (gateOf b .kind)) (allBelow 32 (rightBits b)))
+rightGate b = implies (lawful 3 5 b) (both (inside (gateOf b .kind)) (allBelow 32 (rightBits b)))
 
 right-all : allBelow 160 rightGate ≡ true
 unfolding lawful step gateOf ones onesIn trailingZeros leadingZeros
 right-all = refl
 
-module _ (b : ℕ) (h : lawful 2 5 b ≡ true) where
+module _ (b : ℕ) (h : lawful 3 5 b ≡ true) where
   right : both (inside (gateOf b .kind)) (allBelow 32 (rightBits b)) ≡ true
   right =
-      implied (lawful 2 5 b) (both (inside (gateOf b .kind)) (allBelow 32 (rightBits b)))
-      (below 160 rightGate right-all b (lawful-lt 2 5 b (omega arith) h)) h
+      implied (lawful 3 5 b) (both (inside (gateOf b .kind)) (allBelow 32 (rightBits b)))
+      (below 160 rightGate right-all b (lawful-lt 3 5 b (omega arith) h)) h
 
   -- the control wires of a lawful gate are below 5
   pub wires-inside : inside (gateOf b .kind) ≡ true
@@ -116,14 +123,15 @@ module _ (b : ℕ) (h : lawful 2 5 b ≡ true) where
       eqb-true (bitOf w (step b v)) (published b v w)
       (below 5 (rightBit b v) (below 32 (rightBits b) (both-right (inside (gateOf b .kind)) (allBelow 32 (rightBits b)) right) v hv) w hw)
 
--- Demand 2's "what the published gate definitions give", for W = 3, 4 and 5 and fewer: every lawful gate on every value below 2^W
-module _ (w b v : ℕ) (hw : w ≤ 5) (h : lawful 2 w b ≡ true) (hv : v < 2 ^ w) where
+-- Demand 2's "what the published gate definitions give", for W = 3, 4 and 5 and fewer: every lawful gate, of two controls and of
+-- three, on every value below 2^W
+module _ (k w b v : ℕ) (hk : k ≤ 3) (hw : w ≤ 5) (h : lawful k w b ≡ true) (hv : v < 2 ^ w) where
   pub as-published : (x : ℕ) → x < 5 → bitOf x (step b v) ≡ published b v x
-  as-published x hx = bit-after b (widen 2 w 2 5 b (omega arith) hw h) v x (lt-of-lt-of-le hv (pow-mono hw)) hx
+  as-published x hx = bit-after b (widen k w 3 5 b hk hw h) v x (lt-of-lt-of-le hv (pow-mono hw)) hx
 
   pub target-gets : bitOf (targetOf b) (step b v) ≡ bitXor (bitOf (targetOf b) v) (added (gateOf b .kind) v)
   target-gets =
-      let t : targetOf b < 5 = lt-of-lt-of-le (parts 2 w b h .target) hw in
+      let t : targetOf b < 5 = lt-of-lt-of-le (parts k w b h .target) hw in
       as-published (targetOf b) t ∙ rw (eq-eqb (targetOf b) (targetOf b) refl)
 
   pub others-keep : (x : ℕ) → x < 5 → (x ≡ targetOf b → ⊥) → bitOf x (step b v) ≡ bitOf x v
@@ -131,4 +139,4 @@ module _ (w b v : ℕ) (hw : w ≤ 5) (h : lawful 2 w b ≡ true) (hv : v < 2 ^ 
 
   -- and no wire beyond W comes to be 1
   pub stays-below : step b v < 2 ^ w
-  stays-below = stay 2 w b v h hv
+  stays-below = stay k w b v h hv

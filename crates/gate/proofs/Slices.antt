@@ -17,7 +17,7 @@ use Rattle.logic.proofs.Below.{below}
 use Rattle.logic.proofs.Bits.{bit-xor, bit-and}
 use Rattle.gate.specs.declared.Gate.{Gate}
 use Rattle.gate.specs.declared.Kind.{Kind}
-use Rattle.gate.specs.declared.Kind.the-variants.{Not, Cnot, Toffoli}
+use Rattle.gate.specs.declared.Kind.the-variants.{Not, Cnot, Toffoli, Cccnot}
 use Rattle.gate.specs.Gates.{targetOf, lawful, step, gateOf}
 use Rattle.gate.specs.Published.{added}
 use Rattle.gate.specs.Inner.{firing, columnStep}
@@ -40,19 +40,28 @@ abbrev setBit : ℕ → Bool
 setBit x = eqb (bitOf x 65535) 1
 
 module _ (cs : List ℕ) (x v : ℕ) (hx : x < 16) (row : Row cs x v) where
+  and-product : (p q s t : ℕ) → bitOf x p ≡ s → bitOf x q ≡ t → bitOf x (bitAnd p q) ≡ s * t
+  and-product p q s t e f = bit-and x p q ∙ product (bitOf x p) (bitOf x q) (omega arith) (omega arith) ∙ ap₂ _*_ e f
+
+  two-bits : (a b : ℕ) → both (ltb a 5) (ltb b 5) ≡ true → bitOf x (bitAnd (getD cs a 0) (getD cs b 0)) ≡ bitOf a v * bitOf b v
+  two-bits a b i =
+      and-product (getD cs a 0) (getD cs b 0) (bitOf a v) (bitOf b v)
+      (row a (ltb-true a 5 (both-left (ltb a 5) (ltb b 5) i))) (row b (ltb-true b 5 (both-right (ltb a 5) (ltb b 5) i)))
+
   firing-bit : (k : Kind) → inside k ≡ true → bitOf x (firing k cs) ≡ added k v
   firing-bit Not i = eqb-true (bitOf x 65535) 1 (below 16 setBit refl x hx)
   firing-bit (Cnot a) i = row a (ltb-true a 5 i)
-  firing-bit (Toffoli a b) i =
-      bit-and x (getD cs a 0) (getD cs b 0)
-      ∙ product (bitOf x (getD cs a 0)) (bitOf x (getD cs b 0)) (omega arith) (omega arith)
-      ∙ ap₂ _*_ (row a (ltb-true a 5 (both-left (ltb a 5) (ltb b 5) i))) (row b (ltb-true b 5 (both-right (ltb a 5) (ltb b 5) i)))
+  firing-bit (Toffoli a b) i = two-bits a b i
+  firing-bit (Cccnot a b c) i =
+      let two = both (ltb a 5) (ltb b 5) in
+      and-product (firing (Toffoli a b) cs) (getD cs c 0) (bitOf a v * bitOf b v) (bitOf c v)
+      (two-bits a b (both-left two (ltb c 5) i)) (row c (ltb-true c 5 (both-right two (ltb c 5) i)))
 
-  module _ (b : ℕ) (h : lawful 2 5 b ≡ true) (hl : length cs ≡ 5) (hv : v < 32) where
+  module _ (b : ℕ) (h : lawful 3 5 b ≡ true) (hl : length cs ≡ 5) (hv : v < 32) where
     at-target : bitOf x (getD (columnStep (gateOf b) cs) (targetOf b) 0) ≡ bitOf (targetOf b) (step b v)
     unfolding columnStep gateOf
     at-target =
-        let ht : targetOf b < 5 = parts 2 5 b h .target in
+        let ht : targetOf b < 5 = parts 3 5 b h .target in
         ap (bitOf x) (getD-set-same cs (targetOf b) (bitXor (getD cs (targetOf b) 0) (firing (gateOf b .kind) cs)) 0 (omega arith))
         ∙ bit-xor x (getD cs (targetOf b) 0) (firing (gateOf b .kind) cs)
         ∙ ap₂ bitXor (row (targetOf b) ht) (firing-bit (gateOf b .kind) (wires-inside b h))

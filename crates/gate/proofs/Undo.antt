@@ -3,6 +3,7 @@ use mathlib.Core.Path.{_≡_, refl}
 use mathlib.Core.Bool.{Bool, true, false}
 use Prim.Native.Nat.{ℕ, _^_, _≤_, _<_}
 use native.Mathlib.Nat.{lt-of-lt-of-le}
+use native.Mathlib.Omega.{arith}
 use borrow.Author.Tests.{eqb-true}
 use lib.Dec.{eqb}
 use lib.Bits.{bitXor, xor-lt}
@@ -12,7 +13,7 @@ use Rattle.logic.specs.Rules.{implies, allBelow, pick}
 use Rattle.logic.proofs.Chain.{implied}
 use Rattle.logic.proofs.Below.{below}
 use Rattle.gate.specs.Gates.{targetOf, maskOf, fires, lawful, step}
-use Rattle.gate.proofs.Widen.{parts, widest, lawful-lt}
+use Rattle.gate.proofs.Widen.{parts, widen, any-controls, lawful-lt}
 
 abbrev comesBack : ℕ → ℕ → Bool
 comesBack b v = eqb (step b (step b v)) v
@@ -28,7 +29,8 @@ pub undo : (k w b v : ℕ) → w ≤ 5 → lawful k w b ≡ true → v < 2 ^ w �
 undo k w b v hw h hv =
     eqb-true (step b (step b v)) v
     (below 32 (comesBack b)
-    (implied (lawful 5 5 b) (allBelow 32 (comesBack b)) (below 160 undoes undoes-all b (lawful-lt k w b hw h)) (widest k w b hw h))
+    (implied (lawful 5 5 b) (allBelow 32 (comesBack b)) (below 160 undoes undoes-all b (lawful-lt k w b hw h))
+    (widen 5 w 5 5 b (omega arith) hw (any-controls k w b hw h)))
     v (lt-of-lt-of-le hv (pow-mono hw)))
 
 pub stay : (k w b v : ℕ) → lawful k w b ≡ true → v < 2 ^ w → step b v < 2 ^ w

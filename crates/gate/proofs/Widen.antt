@@ -51,12 +51,12 @@ widen k w k′ w′ b hk hw h =
     })
 
 -- every lawful gate has at most five controls
-pub widest : (k w b : ℕ) → w ≤ 5 → lawful k w b ≡ true → lawful 5 5 b ≡ true
-widest k w b hw h =
+pub any-controls : (k w b : ℕ) → w ≤ 5 → lawful k w b ≡ true → lawful 5 w b ≡ true
+any-controls k w b hw h =
     let p = parts k w b h in
-    joined 5 5 b (record {
-      target = omega arith;
-      mask = lt-of-lt-of-le (p .mask) (pow-mono hw);
+    joined 5 w b (record {
+      target = p .target;
+      mask = p .mask;
       apart = p .apart;
       few = ones-le 5 (maskOf b) (lt-of-lt-of-le (p .mask) (pow-mono hw));
     })

@@ -10,7 +10,7 @@ use Rattle.logic.specs.Lists.{keepOnly, numbersFrom}
 use Rattle.logic.specs.Bit.{bitOf}
 use Rattle.gate.specs.declared.Gate.{Gate}
 use Rattle.gate.specs.declared.Kind.{Kind}
-use Rattle.gate.specs.declared.Kind.the-variants.{Not, Cnot, Toffoli}
+use Rattle.gate.specs.declared.Kind.the-variants.{Not, Cnot, Toffoli, Cccnot}
 
 -- "target wire in 3 bits, then a 5-bit control mask in which bit i means wire i"
 abbrev pub targetOf : ℕ → ℕ
@@ -19,7 +19,8 @@ targetOf b = b / 32
 abbrev pub maskOf : ℕ → ℕ
 maskOf b = b % 32
 
--- "the target is below W, each control is below W, the target is no control, and the mask has at most two ones": here at most k
+-- "the target is below W, each control is below W, the target is no control, and the mask has at most two ones": here at most k, which
+-- is 2, and 3 where "Three controls are then lawful"
 unfoldable pub lawful : ℕ → ℕ → ℕ → Bool
 lawful k w b =
     both (ltb (targetOf b) w)
@@ -35,9 +36,13 @@ fires m v = eqb (bitAnd m v) m
 unfoldable pub step : ℕ → ℕ → ℕ
 step b v = pick (fires (maskOf b) v) (bitXor v (2 ^ targetOf b)) v
 
--- "No control is a NOT, one a CNOT, two a Toffoli": by the number of controls; the cases carry the lowest and the highest control
+-- "No control is a NOT, one a CNOT, two a Toffoli", and three a gate of its own: by the number of controls; the cases carry the lowest,
+-- the middle (the lowest of the mask without its lowest) and the highest control
 abbrev pub lowest : ℕ → ℕ
 lowest m = trailingZeros 8 m
+
+abbrev pub middle : ℕ → ℕ
+middle m = lowest (bitAnd m (m - 1))
 
 abbrev pub highest : ℕ → ℕ
 highest m = 7 - leadingZeros 8 m
@@ -45,7 +50,8 @@ highest m = 7 - leadingZeros 8 m
 abbrev pub kindFor : ℕ → ℕ → Kind
 kindFor zero m = Not
 kindFor (suc zero) m = Cnot (lowest m)
-kindFor (suc (suc n)) m = Toffoli (lowest m) (highest m)
+kindFor (suc (suc zero)) m = Toffoli (lowest m) (highest m)
+kindFor (suc (suc (suc n))) m = Cccnot (lowest m) (middle m) (highest m)
 
 unfoldable pub gateOf : ℕ → Gate
 gateOf b = record { target = targetOf b; kind = kindFor (ones (maskOf b)) (maskOf b) }

@@ -11,7 +11,7 @@ use lib.Seq.{take-all, length-take-le}
 use Rattle.logic.specs.Rules.{both, pick, andThen}
 use Rattle.logic.specs.Answers.{Answer, refused, answered, answerOf}
 use Rattle.logic.proofs.Chain.{both-second}
-use Rattle.record.specs.Jobs.{jobCode, jobLengthOk}
+use Rattle.record.specs.Jobs.{longer, jobCode, jobLengthOk}
 use Rattle.record.specs.Circuits.{circuitCode, circuitLengthOk}
 use Rattle.verify.specs.declared.Measures.{Measures}
 use Rattle.verify.specs.Calls.{measuresFor, measureCode, verifyRest, verifyCode, verifyOf}
@@ -21,9 +21,15 @@ use Rattle.report.specs.Report.{reportOf}
 use Rattle.judge.specs.Files.{isText, circuitIn, judged, verifyFile, verifyText, TellingJob, TellingCircuit}
 
 -- a job of another length
-long-job : (job circuit : List ℕ) → 28 < length job → verifyOf job circuit ≡ refused 1
-unfolding verifyOf verifyCode measureCode jobCode jobLengthOk
-long-job job circuit h = rw (ne-eqb (length job) 20 (λ e. omega arith), ne-eqb (length job) 28 (λ e. omega arith))
+long-job : (job circuit : List ℕ) → 30 < length job → verifyOf job circuit ≡ refused 1
+unfolding verifyOf verifyCode measureCode jobCode jobLengthOk longer
+long-job job circuit h =
+    rw (
+      ne-eqb (length job) 20 (λ e. omega arith),
+      ne-eqb (length job) 28 (λ e. omega arith),
+      ne-eqb (length job) 22 (λ e. omega arith),
+      ne-eqb (length job) 30 (λ e. omega arith),
+    )
 
 -- a circuit that is too long for a record: the job's number, or 7
 too-long : (circuit : List ℕ) → 15 < length circuit → circuitCode circuit ≡ 7
@@ -50,12 +56,12 @@ module _ {A : Type 0} (f : List ℕ → A) (room : ℕ) (same : (input : List �
       by-length true e = ap f (take-all room input (leb-true (length input) room e))
       by-length false e = same input (leb-false (length input) room e)
 
-judged-job : (job other : List ℕ) (circuit : Answer (List ℕ)) → 28 < length job → 28 < length other
+judged-job : (job other : List ℕ) (circuit : Answer (List ℕ)) → 30 < length job → 30 < length other
     → judged job circuit ≡ judged other circuit
 judged-job job other (refused code) h k = refl
 judged-job job other (answered circuit) h k = long-job job circuit h ∙ sym (long-job other circuit k)
 
-pub telling-job : (room : ℕ) → 28 < room → TellingJob room
+pub telling-job : (room : ℕ) → 30 < room → TellingJob room
 unfolding verifyText verifyFile
 telling-job room h job file =
     any-length (λ (j : List ℕ). reportOf (judged j (circuitIn file))) room

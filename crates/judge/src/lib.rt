@@ -14,7 +14,7 @@ pub fn job_room() -> usize
     ensures { λ r. ⌜ TellingJob r ⌝ }
     ensures { λ r. ⌜ r ≤ 4096 ⌝ }
 {
-    29
+    31
 }
 
 // How many bytes of a circuit's file are enough: one more than the longest text has.

@@ -11,7 +11,7 @@ pub fn room() -> usize
     ensures { λ r. ⌜ Telling r ⌝ }
     ensures { λ r. ⌜ r ≤ 4096 ⌝ }
 {
-    29
+    31
 }
 
 // Searches for a job's circuit and writes the line to the start of `out`; returns the line's length.

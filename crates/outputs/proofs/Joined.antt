@@ -11,15 +11,15 @@ use lib.Bits.{bitAnd, bitOr}
 use lib.Count.{ones, onesIn, trailingZeros, leadingZeros}
 use lib.Dec.{eqb, lit<}
 use native.Mathlib.Numerals.{add-one}
-use lib.ListN.{getD}
+use lib.ListN.{length, getD}
 use Rattle.logic.specs.Rules.{both, either, pick, bit, allBelow, someBelow}
 use Rattle.logic.proofs.Chain.{either-none}
 use Rattle.table.specs.Layouts.{Width}
 use Rattle.columns.specs.declared.Wanted.{Wanted}
 use Rattle.columns.specs.Wanted.{misses, allRows, dirt, tidy}
-use Rattle.outputs.specs.Owed.{missed, product, mayControl, mendableOn, mendable, cleanable}
-use Rattle.outputs.proofs.Planned.{fewWires, few-wires}
-use Rattle.outputs.specs.Inner.{productsOf, othersOf, hitBit, anyHit, hitsOf, mended, rowHits, wireHits}
+use Rattle.outputs.specs.Owed.{missed, adds, mendableOn, mendable, fixable}
+use Rattle.outputs.proofs.Planned.{by-five, bit-one, listed, masks-listed}
+use Rattle.outputs.specs.Inner.{productUpTo, part, productsOf, othersOf, hitBit, anyHit, hitsOf, mended, rowHits, wireHits, fixesOn}
 
 or-bits : (a b : Bool) → bitOr (bit a) (bit b) ≡ bit (either a b)
 or-bits true true = refl
@@ -40,6 +40,10 @@ module _ (a b c d : Bool) (x y z v : ℕ) (hx : x ≡ bit a) (hy : y ≡ bit b) 
   and-four : bitAnd v (bitAnd z (bitAnd y x)) ≡ bit (both d (both c (both b a)))
   and-four = ap₂ bitAnd hv (ap₂ bitAnd hz (ap₂ bitAnd hy hx ∙ and-bits b a) ∙ and-bits c (both b a)) ∙ and-bits d (both c (both b a))
 
+fourth : (q : Bool) (x : ℕ) (p : Bool) → x ≡ bit p → pick q x 0 ≡ bit (both q p)
+fourth true x p h = h
+fourth false x p h = refl
+
 pub pick-le : (q : Bool) (x : ℕ) → pick q x 0 ≤ x
 pick-le true x = omega arith
 pick-le false x = omega arith
@@ -56,15 +60,15 @@ pub bit-none : (a : Bool) → eqb (bit a) 0 ≡ not a
 bit-none true = refl
 bit-none false = refl
 
-some-either : (n : ℕ) (f g : ℕ → Bool) → someBelow n (λ i. either (f i) (g i)) ≡ either (someBelow n f) (someBelow n g)
+pub either-swap : (a b c d : Bool) → either (either a b) (either c d) ≡ either (either a c) (either b d)
+either-swap true b c d = refl
+either-swap false true true d = refl
+either-swap false true false d = refl
+either-swap false false c d = refl
+
+pub some-either : (n : ℕ) (f g : ℕ → Bool) → someBelow n (λ i. either (f i) (g i)) ≡ either (someBelow n f) (someBelow n g)
 some-either zero f g = refl
-some-either (suc n) f g = rw (some-either n f g) (swap (f n) (g n) (someBelow n f) (someBelow n g))
-  where
-    swap : (a b c d : Bool) → either (either a b) (either c d) ≡ either (either a c) (either b d)
-    swap true b c d = refl
-    swap false true true d = refl
-    swap false true false d = refl
-    swap false false c d = refl
+some-either (suc n) f g = rw (some-either n f g) (either-swap (f n) (g n) (someBelow n f) (someBelow n g))
 
 module _ (ps : List ℕ) where
   -- where no row is missed, no product is allowed
@@ -109,60 +113,38 @@ module _ (ps : List ℕ) where
 
 -- the products of other wires are those of the masks that a gate on the wire may have
 module _ (cs : List ℕ) (care want : ℕ) where
-  abbrev among : ℕ → Bool
-  among w = someBelow 16 (λ i. hitBit i (getD (map (product cs) fewWires) i 0) (othersOf w) care want)
+  abbrev among : Bool → ℕ → Bool
+  among wide w = someBelow 16 (λ i. hitBit i (getD (map (productUpTo 3 cs) (listed wide)) i 0) (othersOf wide w) care want)
 
-  abbrev added : ℕ → Bool
-  added w = someBelow 32 (λ m. both (mayControl w m) (eqb (bitAnd (product cs m) care) want))
+  some-added : (wide : Bool) (w : ℕ) → w < 5 → among wide w ≡ adds (part wide) cs w care want
+  unfolding adds ones onesIn trailingZeros leadingZeros
+  some-added false = by-five (λ w. among false w ≡ adds (part false) cs w care want) refl refl refl refl refl
+  some-added true = by-five (λ w. among true w ≡ adds (part true) cs w care want) refl refl refl refl refl
 
-  some-added : (w : ℕ) → w < 5 → among w ≡ added w
-  unfolding ones onesIn trailingZeros leadingZeros
-  some-added zero h = refl
-  some-added (suc zero) h = refl
-  some-added (suc (suc zero)) h = refl
-  some-added (suc (suc (suc zero))) h = refl
-  some-added (suc (suc (suc (suc zero)))) h = refl
-  some-added (suc (suc (suc (suc (suc w))))) h = absurd (omega arith)
+  added-is : (wide : Bool) (ps : List ℕ) → ps ≡ productsOf 3 wide cs → (w : ℕ) → w < 5
+      → someBelow 16 (λ i. hitBit i (getD ps i 0) (othersOf wide w) care want) ≡ adds (part wide) cs w care want
+  unfolding productsOf
+  added-is wide ps hp w h =
+      ap (λ (l : List ℕ). someBelow 16 (λ i. hitBit i (getD l i 0) (othersOf wide w) care want)) (hp ∙ ap (map (productUpTo 3 cs)) (masks-listed wide))
+      ∙ some-added wide w h
 
-mended-is : (t : Wanted) (cs ps : List ℕ) → ps ≡ productsOf cs → (w j : ℕ) → w < 4 → mended ps (othersOf w) (getD (t .care) j 0) (misses t (getD cs w 0) j) ≡ mendableOn t cs w j
-unfolding mended mendableOn productsOf
-mended-is t cs ps hp w j h =
-    let p : ps ≡ map (product cs) fewWires = hp ∙ ap (map (product cs)) few-wires in
-    ap (both (missed t cs w j))
-    (ap (λ (l : List ℕ). someBelow 16 (λ i. hitBit i (getD l i 0) (othersOf w) (getD (t .care) j 0) (misses t (getD cs w 0) j))) p
-    ∙ some-added cs (getD (t .care) j 0) (misses t (getD cs w 0) j) w (omega arith))
+mended-is : (wide : Bool) (t : Wanted) (cs ps : List ℕ) → ps ≡ productsOf 3 wide cs → (w j : ℕ) → w < 4
+    → mended ps (othersOf wide w) (getD (t .care) j 0) (misses t (getD cs w 0) j) ≡ mendableOn (part wide) t cs w j
+unfolding mended mendableOn
+mended-is wide t cs ps hp w j h = ap (both (missed t cs w j)) (added-is cs (getD (t .care) j 0) (misses t (getD cs w 0) j) wide ps hp w (omega arith))
 
--- the ancilla's test is that of one output, with nothing asked of three others
-pub cleaned : (cs ps : List ℕ) (n rows : ℕ) → n < 5 → ps ≡ productsOf cs → rows ≡ allRows n
-    → rowHits ps (rows ∷ 0 ∷ 0 ∷ 0 ∷ []) (othersOf n) (dirt n (getD cs n 0)) 0 0 0 0 0 0 ≡ cleanable cs n
-unfolding rowHits mended cleanable productsOf
-cleaned cs ps n rows h hp hr =
-    let p : ps ≡ map (product cs) fewWires = hp ∙ ap (map (product cs)) few-wires in
-    let d = dirt n (getD cs n 0) in
-    sym (either-none _)
-    ∙ ap (both (not (tidy n cs)))
-    (ap₂ (λ (l : List ℕ) (k : ℕ). someBelow 16 (λ i. hitBit i (getD l i 0) (othersOf n) k d)) p hr ∙ some-added cs (allRows n) d n h)
+-- a test of one output is that of four, with nothing asked of three
+pub one-is : (wide : Bool) (cs ps : List ℕ) (w care want : ℕ) → w < 5 → ps ≡ productsOf 3 wide cs
+    → rowHits ps (care ∷ 0 ∷ 0 ∷ 0 ∷ []) (othersOf wide w) want 0 0 0 0 0 0 ≡ both (not (eqb want 0)) (adds (part wide) cs w care want)
+unfolding rowHits mended
+one-is wide cs ps w care want h hp = sym (either-none _) ∙ ap (both (not (eqb want 0))) (added-is cs care want wide ps hp w h)
 
 -- where no row is missed, nothing is mended
 mended-none : (ps : List ℕ) (allowed care : ℕ) → mended ps allowed care 0 ≡ false
 unfolding mended
 mended-none ps allowed care = refl
 
-module _ (t : Wanted) (cs : List ℕ) (n : ℕ) (width : Width n) where
-  -- four outputs on four wires, of which the fourth counts with four only
-  pub outputs-are : (ps : List ℕ) → ps ≡ productsOf cs → (wire : ℕ → ℕ) → ((j : ℕ) → j < 4 → wire j < 4)
-      → rowHits ps (t .care) (othersOf (wire 0)) (misses t (getD cs (wire 0) 0) 0) (othersOf (wire 1)) (misses t (getD cs (wire 1) 0) 1)
-      (othersOf (wire 2)) (misses t (getD cs (wire 2) 0) 2) (othersOf (wire 3)) (pick (eqb n 4) (misses t (getD cs (wire 3) 0) 3) 0)
-      ≡ someBelow n (λ j. mendableOn t cs (wire j) j)
-  unfolding rowHits
-  outputs-are ps hp wire h =
-      let m : (j : ℕ) → j < 4 → mended ps (othersOf (wire j)) (getD (t .care) j 0) (misses t (getD cs (wire j) 0) j) ≡ mendableOn t cs (wire j) j
-      = λ j l. mended-is t cs ps hp (wire j) j (h j l) in
-      ⊎-elim
-      (λ (e : n ≡ 3). rw (e, mended-none ps (othersOf (wire 3)) (getD (t .care) 3 0), m 2 (lit< tt), m 1 (lit< tt), m 0 (lit< tt)))
-      (λ (e : n ≡ 4). rw (e, m 3 (lit< tt), m 2 (lit< tt), m 1 (lit< tt), m 0 (lit< tt)))
-      width
-
+module _ (n : ℕ) (width : Width n) where
   -- some wire, where the fourth counts with four only
   some-wire : (f : ℕ → Bool) → either (both (eqb n 4) (f 3)) (either (f 2) (either (f 1) (f 0))) ≡ someBelow n f
   some-wire f =
@@ -178,36 +160,9 @@ module _ (t : Wanted) (cs : List ℕ) (n : ℕ) (width : Width n) where
       last : (a b : Bool) → both a (both b (f 0)) ≡ both a (both b (both (f 0) true))
       last a b = ap (λ x. both a (both b x)) (both-all (f 0))
 
-  pub free-mendable : (free : ℕ) → free ≡ 1 → (ps : List ℕ) → ps ≡ productsOf cs → (a b c d : ℕ)
-      → a ≡ bit (wireHits ps t cs n 0) → b ≡ bit (wireHits ps t cs n 1)
-      → c ≡ bit (wireHits ps t cs n 2) → d ≡ bit (wireHits ps t cs n 3)
-      → bitOr (pick (eqb n 4) d 0) (bitOr c (bitOr b a)) ≡ bit (mendable t cs n free)
-  unfolding mendable wireHits
-  free-mendable free e ps hp a b c d ha hb hc hd =
-      rw (eq-eqb free 1 e)
-      (or-four (f 0) (f 1) (f 2) (both (eqb n 4) (f 3)) a b c (pick (eqb n 4) d 0)
-      (ha ∙ ap bit (at 0 (lit< tt))) (hb ∙ ap bit (at 1 (lit< tt))) (hc ∙ ap bit (at 2 (lit< tt))) (fourth (eqb n 4) d (f 3) (hd ∙ ap bit (at 3 (lit< tt))))
-      ∙ ap bit (some-wire f))
-    where
-      f : ℕ → Bool
-      f w = someBelow n (mendableOn t cs w)
-
-      at : (w : ℕ) → w < 4 → wireHits ps t cs n w ≡ f w
-      at w h = outputs-are ps hp (λ j. w) (λ j l. h)
-
-      fourth : (q : Bool) (x : ℕ) (p : Bool) → x ≡ bit p → pick q x 0 ≡ bit (both q p)
-      fourth true x p h = h
-      fourth false x p h = refl
-
-  pub fixed-mendable : (free : ℕ) → (free ≡ 1 → ⊥) → (ps : List ℕ) → ps ≡ productsOf cs
-      → rowHits ps (t .care) (othersOf 0) (misses t (getD cs 0 0) 0) (othersOf 1) (misses t (getD cs 1 0) 1) (othersOf 2) (misses t (getD cs 2 0) 2)
-      (othersOf 3) (pick (eqb n 4) (misses t (getD cs 3 0) 3) 0) ≡ mendable t cs n free
-  unfolding mendable
-  fixed-mendable free e ps hp = rw (ne-eqb free 1 e) (outputs-are ps hp (λ j. j) (λ j l. l))
-
-  pub missed-each : (j a b c d : ℕ) → a ≡ bit (missed t cs 0 j) → b ≡ bit (missed t cs 1 j) → c ≡ bit (missed t cs 2 j) → d ≡ bit (missed t cs 3 j)
+  pub missed-each : (t : Wanted) (cs : List ℕ) (j a b c d : ℕ) → a ≡ bit (missed t cs 0 j) → b ≡ bit (missed t cs 1 j) → c ≡ bit (missed t cs 2 j) → d ≡ bit (missed t cs 3 j)
       → bitAnd (pick (eqb n 4) d 1) (bitAnd c (bitAnd b a)) ≡ bit (allBelow n (λ w. missed t cs w j))
-  missed-each j a b c d ha hb hc hd =
+  missed-each t cs j a b c d ha hb hc hd =
       and-four (missed t cs 0 j) (missed t cs 1 j) (missed t cs 2 j) (pick (eqb n 4) (missed t cs 3 j) true) a b c (pick (eqb n 4) d 1)
       ha hb hc (fourth (eqb n 4) d (missed t cs 3 j) hd)
       ∙ ap bit (each-wire (λ w. missed t cs w j))
@@ -215,3 +170,70 @@ module _ (t : Wanted) (cs : List ℕ) (n : ℕ) (width : Width n) where
       fourth : (q : Bool) (x : ℕ) (p : Bool) → x ≡ bit p → pick q x 1 ≡ bit (pick q p true)
       fourth true x p h = h
       fourth false x p h = refl
+
+module _ (wide : Bool) (t : Wanted) (cs : List ℕ) (n : ℕ) (width : Width n) where
+  -- four outputs on four wires, of which the fourth counts with four only
+  pub outputs-are : (ps : List ℕ) → ps ≡ productsOf 3 wide cs → (wire : ℕ → ℕ) → ((j : ℕ) → j < 4 → wire j < 4)
+      → rowHits ps (t .care) (othersOf wide (wire 0)) (misses t (getD cs (wire 0) 0) 0) (othersOf wide (wire 1)) (misses t (getD cs (wire 1) 0) 1)
+      (othersOf wide (wire 2)) (misses t (getD cs (wire 2) 0) 2) (othersOf wide (wire 3)) (pick (eqb n 4) (misses t (getD cs (wire 3) 0) 3) 0)
+      ≡ someBelow n (λ j. mendableOn (part wide) t cs (wire j) j)
+  unfolding rowHits
+  outputs-are ps hp wire h =
+      let m : (j : ℕ) → j < 4 → mended ps (othersOf wide (wire j)) (getD (t .care) j 0) (misses t (getD cs (wire j) 0) j) ≡ mendableOn (part wide) t cs (wire j) j
+      = λ j l. mended-is wide t cs ps hp (wire j) j (h j l) in
+      ⊎-elim
+      (λ (e : n ≡ 3). rw (e, mended-none ps (othersOf wide (wire 3)) (getD (t .care) 3 0), m 2 (lit< tt), m 1 (lit< tt), m 0 (lit< tt)))
+      (λ (e : n ≡ 4). rw (e, m 3 (lit< tt), m 2 (lit< tt), m 1 (lit< tt), m 0 (lit< tt)))
+      width
+
+  pub wire-is : (ps : List ℕ) → ps ≡ productsOf 3 wide cs → (w : ℕ) → w < 4 → wireHits wide ps t cs n w ≡ someBelow n (mendableOn (part wide) t cs w)
+  unfolding wireHits
+  wire-is ps hp w h = outputs-are ps hp (λ j. w) (λ j l. h)
+
+  pub free-mendable : (free : ℕ) → free ≡ 1 → (ps : List ℕ) → ps ≡ productsOf 3 wide cs → (a b c d : ℕ)
+      → a ≡ bit (wireHits wide ps t cs n 0) → b ≡ bit (wireHits wide ps t cs n 1)
+      → c ≡ bit (wireHits wide ps t cs n 2) → d ≡ bit (wireHits wide ps t cs n 3)
+      → bitOr (pick (eqb n 4) d 0) (bitOr c (bitOr b a)) ≡ bit (mendable (part wide) t cs n free)
+  unfolding mendable
+  free-mendable free e ps hp a b c d ha hb hc hd =
+      rw (eq-eqb free 1 e)
+      (or-four (f 0) (f 1) (f 2) (both (eqb n 4) (f 3)) a b c (pick (eqb n 4) d 0)
+      (ha ∙ ap bit (at 0 (lit< tt))) (hb ∙ ap bit (at 1 (lit< tt))) (hc ∙ ap bit (at 2 (lit< tt))) (fourth (eqb n 4) d (f 3) (hd ∙ ap bit (at 3 (lit< tt))))
+      ∙ ap bit (some-wire n width f))
+    where
+      f : ℕ → Bool
+      f w = someBelow n (mendableOn (part wide) t cs w)
+
+      at : (w : ℕ) → w < 4 → wireHits wide ps t cs n w ≡ f w
+      at = wire-is ps hp
+
+  pub fixed-mendable : (free : ℕ) → (free ≡ 1 → ⊥) → (ps : List ℕ) → ps ≡ productsOf 3 wide cs
+      → rowHits ps (t .care) (othersOf wide 0) (misses t (getD cs 0 0) 0) (othersOf wide 1) (misses t (getD cs 1 0) 1) (othersOf wide 2) (misses t (getD cs 2 0) 2)
+      (othersOf wide 3) (pick (eqb n 4) (misses t (getD cs 3 0) 3) 0) ≡ mendable (part wide) t cs n free
+  unfolding mendable
+  fixed-mendable free e ps hp = rw (ne-eqb free 1 e) (outputs-are ps hp (λ j. j) (λ j l. l))
+
+-- the data wires and the ancilla, asked one by one
+module _ (allowed : ℕ → Bool) (t : Wanted) (cs : List ℕ) (n free : ℕ) (width : Width n) where
+  abbrev on : ℕ → Bool
+  on = fixesOn allowed t cs n free
+
+  on-wires : either (on n) (someBelow n on) ≡ fixable allowed t cs n free
+  unfolding fixesOn fixable mendable
+  on-wires = ⊎-elim (λ (e : n ≡ 3). rw e) (λ (e : n ≡ 4). rw e) width
+
+  pub wires-fixable : (a b c d f : ℕ) → a ≡ bit (on 0) → b ≡ bit (on 1) → c ≡ bit (on 2) → d ≡ bit (on 3) → f ≡ bit (on n)
+      → eqb (bitOr f (bitOr (pick (eqb n 4) d 0) (bitOr c (bitOr b a)))) 1 ≡ fixable allowed t cs n free
+  wires-fixable a b c d f ha hb hc hd hf =
+      let wires = or-four (on 0) (on 1) (on 2) (both (eqb n 4) (on 3)) a b c (pick (eqb n 4) d 0) ha hb hc (fourth (eqb n 4) d (on 3) hd) ∙ ap bit (some-wire n width on) in
+      ap (λ x. eqb x 1) (ap₂ bitOr hf wires ∙ or-bits (on n) (someBelow n on)) ∙ bit-one (either (on n) (someBelow n on)) ∙ on-wires
+
+-- five cells are the list that they are read from
+pub five-cells : (cs : List ℕ) → length cs ≡ 5 → getD cs 0 0 ∷ getD cs 1 0 ∷ getD cs 2 0 ∷ getD cs 3 0 ∷ getD cs 4 0 ∷ [] ≡ cs
+five-cells (a ∷ b ∷ c ∷ d ∷ e ∷ []) h = refl
+five-cells [] h = absurd (omega arith)
+five-cells (a ∷ []) h = absurd (omega arith)
+five-cells (a ∷ b ∷ []) h = absurd (omega arith)
+five-cells (a ∷ b ∷ c ∷ []) h = absurd (omega arith)
+five-cells (a ∷ b ∷ c ∷ d ∷ []) h = absurd (omega arith)
+five-cells (a ∷ b ∷ c ∷ d ∷ e ∷ f ∷ l) h = absurd (omega arith)

@@ -3,3 +3,4 @@ pub mod Skips
 pub mod Unfinished
 pub mod Planned
 pub mod Joined
+pub mod Parts

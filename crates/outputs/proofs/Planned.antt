@@ -26,11 +26,11 @@ use Rattle.table.specs.Layouts.{Width}
 use Rattle.columns.specs.declared.Wanted.{Wanted}
 use Rattle.columns.specs.Wanted.{misses, fitting, tidy}
 use Rattle.outputs.specs.declared.Plan.{Plan}
-use Rattle.outputs.specs.Owed.{missed, alone, owed, spoilt, due, lost, mends, worth, product}
-use Rattle.outputs.specs.Inner.{productsOf, four, tableOf, digits, aloneBit, setOf, planOf, packed, hasOutput, hasOne, mendsBy, placesOf, spreadOf, spotsOf, spoiltSpots}
+use Rattle.outputs.specs.Owed.{missed, alone, owed, spoilt, due, lost, mends, worth, Controls, product}
+use Rattle.outputs.specs.Inner.{productUpTo, masksOf, productsOf, four, tableOf, digits, aloneBit, setOf, planOf, packed, hasOutput, hasOne, mendsBy, placesOf, spreadOf, spotsOf, spoiltSpots}
 
 -- what holds at each number below five holds at any
-by-five : (P : ℕ → Type 0) → P 0 → P 1 → P 2 → P 3 → P 4 → (w : ℕ) → w < 5 → P w
+pub by-five : (P : ℕ → Type 0) → P 0 → P 1 → P 2 → P 3 → P 4 → (w : ℕ) → w < 5 → P w
 by-five P a b c d e zero h = a
 by-five P a b c d e (suc zero) h = b
 by-five P a b c d e (suc (suc zero)) h = c
@@ -47,55 +47,76 @@ digit f w h l =
     let l₄ = l 4 (lit< tt) in
     by-five (λ i. digits f / 2 ^ (4 * i) % 16 ≡ f i) (omega arith) (omega arith) (omega arith) (omega arith) (omega arith) w h
 
-module _ (t : Wanted) (cs : List ℕ) where
-  product-at : (m : ℕ) → m < 32 → getD (tableOf t cs) m 0 ≡ product cs m
-  unfolding tableOf ones onesIn
-  product-at m h =
-      List·getD-append (map (product cs) (numbersFrom 0 32)) (four (t .value) ++ four (t .care)) 0 m h
-      ∙ List·getD-map (product cs) (numbersFrom 0 32) m 7
-      ∙ ap (product cs) (numbers-at 32 0 m 7 h ∙ zero-add m)
+module _ (k : ℕ) (t : Wanted) (cs : List ℕ) where
+  none-of-five : Controls k → productUpTo k cs 31 ≡ 0
+  unfolding ones onesIn
+  none-of-five hk = ⊎-elim (λ (e : k ≡ 2). rw e) (λ (e : k ≡ 3). rw e) hk
 
-  product-few : (m : ℕ) → m < 32 → ones m ≤ 2 → getD (tableOf t cs) m 0 ≡ firing (kindFor (ones m) m) cs
-  product-few m h l = product-at m h ∙ rw (le-leb (ones m) 2 l)
+  product-at : Controls k → (m : ℕ) → m < 32 → getD (tableOf k t cs) m 0 ≡ productUpTo k cs m
+  unfolding tableOf
+  product-at hk m h =
+      List·getD-append (map (productUpTo k cs) (numbersFrom 0 32)) (four (t .value) ++ four (t .care)) 0 m h
+      ∙ ap (getD (map (productUpTo k cs) (numbersFrom 0 32)) m) (sym (none-of-five hk))
+      ∙ List·getD-map (productUpTo k cs) (numbersFrom 0 32) m 31
+      ∙ ap (productUpTo k cs) (numbers-at 32 0 m 31 h ∙ zero-add m)
 
-  column-at : (w : ℕ) → w < 5 → getD (tableOf t cs) (2 ^ w) 0 ≡ getD cs w 0
+  product-few : Controls k → (m : ℕ) → m < 32 → ones m ≤ k → getD (tableOf k t cs) m 0 ≡ product cs m
+  product-few hk m h l = product-at hk m h ∙ rw (le-leb (ones m) k l)
+
+  column-at : Controls k → (w : ℕ) → w < 5 → getD (tableOf k t cs) (2 ^ w) 0 ≡ getD cs w 0
   unfolding tableOf ones onesIn trailingZeros leadingZeros
-  column-at = by-five (λ w. getD (tableOf t cs) (2 ^ w) 0 ≡ getD cs w 0) refl refl refl refl refl
+  column-at hk w h =
+      ⊎-elim
+      (λ (e : k ≡ 2). rw e (by-five (λ i. getD (tableOf 2 t cs) (2 ^ i) 0 ≡ getD cs i 0) refl refl refl refl refl w h))
+      (λ (e : k ≡ 3). rw e (by-five (λ i. getD (tableOf 3 t cs) (2 ^ i) 0 ≡ getD cs i 0) refl refl refl refl refl w h))
+      hk
 
   -- the target's column after a gate
-  next-column : (g : ℕ) → lawful 2 5 g ≡ true → length cs ≡ 5
-      → bitXor (getD (tableOf t cs) (2 ^ targetOf g) 0) (getD (tableOf t cs) (maskOf g) 0) ≡ getD (columnStep (gateOf g) cs) (targetOf g) 0
+  next-column : Controls k → (g : ℕ) → lawful k 5 g ≡ true → length cs ≡ 5
+      → bitXor (getD (tableOf k t cs) (2 ^ targetOf g) 0) (getD (tableOf k t cs) (maskOf g) 0) ≡ getD (columnStep (gateOf g) cs) (targetOf g) 0
   unfolding columnStep gateOf
-  next-column g h l =
-      let p = parts 2 5 g h in
+  next-column hk g h l =
+      let p = parts k 5 g h in
       let ht : targetOf g < 5 = p .target in
-      ap₂ bitXor (column-at (targetOf g) ht) (product-few (maskOf g) (omega arith) (p .few))
+      ap₂ bitXor (column-at hk (targetOf g) ht) (product-few hk (maskOf g) (omega arith) (p .few))
       ∙ sym (getD-set-same cs (targetOf g) (bitXor (getD cs (targetOf g) 0) (firing (gateOf g .kind) cs)) 0 (omega arith))
 
--- the products of few wires, each at the place of its mask, and the wanted columns
-abbrev pub atMasks : List ℕ → List ℕ → List ℕ → List ℕ
-atMasks ps value care =
-    getD ps 0 0 ∷ getD ps 1 0 ∷ getD ps 2 0 ∷ getD ps 3 0 ∷ getD ps 4 0 ∷ getD ps 5 0 ∷ getD ps 6 0 ∷ 0 ∷
-    getD ps 7 0 ∷ getD ps 8 0 ∷ getD ps 9 0 ∷ 0 ∷ getD ps 10 0 ∷ 0 ∷ 0 ∷ 0 ∷
-    getD ps 11 0 ∷ getD ps 12 0 ∷ getD ps 13 0 ∷ 0 ∷ getD ps 14 0 ∷ 0 ∷ 0 ∷ 0 ∷
-    getD ps 15 0 ∷ 0 ∷ 0 ∷ 0 ∷ 0 ∷ 0 ∷ 0 ∷ 0 ∷
+-- the products of few wires and of more, each at the place of its mask, and the wanted columns
+abbrev pub atMasks : List ℕ → List ℕ → List ℕ → List ℕ → List ℕ
+atMasks ps qs value care =
+    getD ps 0 0 ∷ getD ps 1 0 ∷ getD ps 2 0 ∷ getD ps 3 0 ∷ getD ps 4 0 ∷ getD ps 5 0 ∷ getD ps 6 0 ∷ getD qs 0 0 ∷
+    getD ps 7 0 ∷ getD ps 8 0 ∷ getD ps 9 0 ∷ getD qs 1 0 ∷ getD ps 10 0 ∷ getD qs 2 0 ∷ getD qs 3 0 ∷ 0 ∷
+    getD ps 11 0 ∷ getD ps 12 0 ∷ getD ps 13 0 ∷ getD qs 5 0 ∷ getD ps 14 0 ∷ getD qs 6 0 ∷ getD qs 7 0 ∷ 0 ∷
+    getD ps 15 0 ∷ getD qs 9 0 ∷ getD qs 10 0 ∷ 0 ∷ getD qs 12 0 ∷ 0 ∷ 0 ∷ 0 ∷
     getD value 0 0 ∷ getD value 1 0 ∷ getD value 2 0 ∷ getD value 3 0 ∷ getD care 0 0 ∷ getD care 1 0 ∷ getD care 2 0 ∷ getD care 3 0 ∷ []
 
--- the masks of at most two wires
-abbrev pub fewWires : List ℕ
-fewWires = 0 ∷ 1 ∷ 2 ∷ 3 ∷ 4 ∷ 5 ∷ 6 ∷ 8 ∷ 9 ∷ 10 ∷ 12 ∷ 16 ∷ 17 ∷ 18 ∷ 20 ∷ 24 ∷ []
+-- the masks of at most two wires, and those of more
+abbrev pub listed : Bool → List ℕ
+listed false = 0 ∷ 1 ∷ 2 ∷ 3 ∷ 4 ∷ 5 ∷ 6 ∷ 8 ∷ 9 ∷ 10 ∷ 12 ∷ 16 ∷ 17 ∷ 18 ∷ 20 ∷ 24 ∷ []
+listed true = 7 ∷ 11 ∷ 13 ∷ 14 ∷ 15 ∷ 19 ∷ 21 ∷ 22 ∷ 23 ∷ 25 ∷ 26 ∷ 27 ∷ 28 ∷ 29 ∷ 30 ∷ 31 ∷ []
 
-pub few-wires : keepOnly (λ m. leb (ones m) 2) (numbersFrom 0 32) ≡ fewWires
+pub masks-listed : (wide : Bool) → masksOf wide ≡ listed wide
 unfolding ones onesIn
-few-wires = refl
+masks-listed false = refl
+masks-listed true = refl
 
-few-at-masks : (t : Wanted) (cs : List ℕ) → atMasks (map (product cs) fewWires) (t .value) (t .care) ≡ tableOf t cs
-unfolding tableOf ones onesIn trailingZeros leadingZeros
-few-at-masks t cs = refl
+module _ (t : Wanted) (cs : List ℕ) where
+  abbrev atPlaces : ℕ → List ℕ
+  atPlaces k = atMasks (map (productUpTo 3 cs) (listed false)) (map (productUpTo k cs) (listed true)) (t .value) (t .care)
 
-pub at-masks : (t : Wanted) (cs : List ℕ) → atMasks (productsOf cs) (t .value) (t .care) ≡ tableOf t cs
+  two-at-masks : atPlaces 2 ≡ tableOf 2 t cs
+  unfolding tableOf ones onesIn trailingZeros leadingZeros
+  two-at-masks = refl
+
+  three-at-masks : atPlaces 3 ≡ tableOf 3 t cs
+  unfolding tableOf ones onesIn trailingZeros leadingZeros
+  three-at-masks = refl
+
+pub at-masks : (k : ℕ) → Controls k → (t : Wanted) (cs : List ℕ) → atMasks (productsOf 3 false cs) (productsOf k true cs) (t .value) (t .care) ≡ tableOf k t cs
 unfolding productsOf
-at-masks t cs = ap (λ ms. atMasks (map (product cs) ms) (t .value) (t .care)) few-wires ∙ few-at-masks t cs
+at-masks k hk t cs =
+    ap₂ (λ (ms ns : List ℕ). atMasks (map (productUpTo 3 cs) ms) (map (productUpTo k cs) ns) (t .value) (t .care)) (masks-listed false) (masks-listed true)
+    ∙ ⊎-elim (λ (e : k ≡ 2). rw e (two-at-masks t cs)) (λ (e : k ≡ 3). rw e (three-at-masks t cs)) hk
 
 pub bit-one : (b : Bool) → eqb (bit b) 1 ≡ b
 bit-one true = refl
@@ -130,33 +151,33 @@ module _ (a b c d : Bool) where
       (ap₂ either (ap (λ x. both x q) bit-1)
       (ap (λ x. both x p) bit-0 ∙ either-none (both a p))))
 
-module _ (t : Wanted) (cs : List ℕ) (free w column : ℕ) where
-  one-of-three : hasOne (tableOf t cs) column (setOf t cs 3 free w) ≡ someBelow 3 (λ j. both (alone t cs 3 free w j) (fitting t column j))
+module _ (k : ℕ) (t : Wanted) (cs : List ℕ) (free w column : ℕ) where
+  one-of-three : hasOne (tableOf k t cs) column (setOf t cs 3 free w) ≡ someBelow 3 (λ j. both (alone t cs 3 free w j) (fitting t column j))
   unfolding hasOne hasOutput setOf misses tableOf ones onesIn trailingZeros leadingZeros
   one-of-three =
       chosen (alone t cs 3 free w 0) (alone t cs 3 free w 1) (alone t cs 3 free w 2) false
       (fitting t column 0) (fitting t column 1) (fitting t column 2) (fitting t column 3)
 
-  one-of-four : hasOne (tableOf t cs) column (setOf t cs 4 free w) ≡ someBelow 4 (λ j. both (alone t cs 4 free w j) (fitting t column j))
+  one-of-four : hasOne (tableOf k t cs) column (setOf t cs 4 free w) ≡ someBelow 4 (λ j. both (alone t cs 4 free w j) (fitting t column j))
   unfolding hasOne hasOutput setOf misses tableOf ones onesIn trailingZeros leadingZeros
   one-of-four =
       chosen (alone t cs 4 free w 0) (alone t cs 4 free w 1) (alone t cs 4 free w 2) (alone t cs 4 free w 3)
       (fitting t column 0) (fitting t column 1) (fitting t column 2) (fitting t column 3)
 
-  output-at : (j : ℕ) → j < 4 → hasOutput (tableOf t cs) column j ≡ fitting t column j
+  output-at : (j : ℕ) → j < 4 → hasOutput (tableOf k t cs) column j ≡ fitting t column j
   unfolding hasOutput misses tableOf ones onesIn trailingZeros leadingZeros
   output-at j h =
-      by-five (λ i. i < 4 → hasOutput (tableOf t cs) column i ≡ fitting t column i)
+      by-five (λ i. i < 4 → hasOutput (tableOf k t cs) column i ≡ fitting t column i)
       (λ l. refl) (λ l. refl) (λ l. refl) (λ l. refl) (λ l. absurd (omega arith)) j (omega arith) h
 
-  mends-by : (n : ℕ) → Width n → mendsBy (tableOf t cs) (setOf t cs n free w) n free w column ≡ mends t cs n free w column
+  mends-by : (n : ℕ) → Width n → mendsBy (tableOf k t cs) (setOf t cs n free w) n free w column ≡ mends t cs n free w column
   unfolding mendsBy mends
   mends-by n width = by-wire (decLt w n)
     where
-      one-of : hasOne (tableOf t cs) column (setOf t cs n free w) ≡ someBelow n (λ j. both (alone t cs n free w j) (fitting t column j))
+      one-of : hasOne (tableOf k t cs) column (setOf t cs n free w) ≡ someBelow n (λ j. both (alone t cs n free w j) (fitting t column j))
       one-of = ⊎-elim (λ (e : n ≡ 3). rw e one-of-three) (λ (e : n ≡ 4). rw e one-of-four) width
 
-      by-wire : Dec (w < n) → mendsBy (tableOf t cs) (setOf t cs n free w) n free w column ≡ mends t cs n free w column
+      by-wire : Dec (w < n) → mendsBy (tableOf k t cs) (setOf t cs n free w) n free w column ≡ mends t cs n free w column
       by-wire (yes h) =
           let l : w < 4 = ⊎-elim (λ e. omega arith) (λ e. omega arith) width in
           rw (one-of, output-at w l)
@@ -164,6 +185,13 @@ module _ (t : Wanted) (cs : List ℕ) (free w column : ℕ) where
 
 pub narrow : {n : ℕ} → Width n → n < 5
 narrow width = ⊎-elim (λ e. omega arith) (λ e. omega arith) width
+
+pub three-wires : {n : ℕ} → Width n → 3 ≤ n
+three-wires width = ⊎-elim (λ e. omega arith) (λ e. omega arith) width
+
+-- a wire that is not past the data wires, and not the ancilla, is one of them
+pub data-wire : {n w : ℕ} → Width n → w ≤ n → (n ≡ w → ⊥) → w < 4
+data-wire width h f = ⊎-elim (λ e. omega arith) (λ e. omega arith) width
 
 pub owed-few : (t : Wanted) (cs : List ℕ) (n free : ℕ) → Width n → (w : ℕ) → owed t cs n free w ≤ 4
 unfolding owed
@@ -189,31 +217,31 @@ pub own-lt : (w : ℕ) → w < 5 → 1 * 2 ^ w % 2 ^ 64 < 32
 own-lt = by-five (λ w. 1 * 2 ^ w % 2 ^ 64 < 32) (lit< tt) (lit< tt) (lit< tt) (lit< tt) (lit< tt)
 
 -- the target's column, as the code reads it from the table
-pub next-read : (g : ℕ) → lawful 2 5 g ≡ true → (t : Wanted) (cs table : List ℕ) → length cs ≡ 5 → table ≡ tableOf t cs
+pub next-read : (k g : ℕ) → Controls k → lawful k 5 g ≡ true → (t : Wanted) (cs table : List ℕ) → length cs ≡ 5 → table ≡ tableOf k t cs
     → bitXor (getD table (1 * 2 ^ targetOf g % 2 ^ 64) 0) (getD table (maskOf g) 0) ≡ getD (columnStep (gateOf g) cs) (targetOf g) 0
-next-read g hg t cs table l ht =
-    let h = parts 2 5 g hg .target in
-    rw (ht, shifted-one (targetOf g) (omega arith)) (next-column t cs g hg l)
+next-read k g hk hg t cs table l ht =
+    let h = parts k 5 g hg .target in
+    rw (ht, shifted-one (targetOf g) (omega arith)) (next-column k t cs hk g hg l)
 
 -- the test of a gate, from what the plan says of it
-module _ (t : Wanted) (cs : List ℕ) (n free g reach : ℕ) (width : Width n) (hg : lawful 2 5 g ≡ true)
+module _ (t : Wanted) (cs : List ℕ) (n free g reach : ℕ) (width : Width n) (hg : targetOf g < 5)
     (plan : Plan) (hp : plan ≡ planOf t cs n free) where
   size-told : plan .sizes / 2 ^ (4 * targetOf g) % 16 ≡ due t cs n free (targetOf g)
-  size-told = rw hp (size-at t cs n free width (targetOf g) (parts 2 5 g hg .target))
+  size-told = rw hp (size-at t cs n free width (targetOf g) hg)
 
   pub worth-size : (plan .sizes / 2 ^ (4 * targetOf g) % 16 ≡ reach → ⊥) → ltb (plan .sizes / 2 ^ (4 * targetOf g) % 16) reach ≡ worth t cs n free g reach
   unfolding worth
   worth-size f = let e = size-told in rw (ne-eqb (due t cs n free (targetOf g)) reach (λ h. f (e ∙ h)), ← e)
 
-  pub worth-mends : plan .sizes / 2 ^ (4 * targetOf g) % 16 ≡ reach → (table : List ℕ) → table ≡ tableOf t cs → (column : ℕ)
+  pub worth-mends : plan .sizes / 2 ^ (4 * targetOf g) % 16 ≡ reach → (k : ℕ) (table : List ℕ) → table ≡ tableOf k t cs → (column : ℕ)
       → column ≡ getD (columnStep (gateOf g) cs) (targetOf g) 0
       → mendsBy table (plan .sets / 2 ^ (4 * targetOf g) % 16) n free (targetOf g) column ≡ worth t cs n free g reach
   unfolding worth
-  worth-mends f table ht column hc =
+  worth-mends f k table ht column hc =
       let e = sym size-told ∙ f in
-      let s = ap (λ (x : Plan). x .sets / 2 ^ (4 * targetOf g) % 16) hp ∙ set-at t cs n free width (targetOf g) (parts 2 5 g hg .target) in
+      let s = ap (λ (x : Plan). x .sets / 2 ^ (4 * targetOf g) % 16) hp ∙ set-at t cs n free width (targetOf g) hg in
       rw (eq-eqb (due t cs n free (targetOf g)) reach e, ht, s, hc)
-      (mends-by t cs free (targetOf g) (getD (columnStep (gateOf g) cs) (targetOf g) 0) n width)
+      (mends-by k t cs free (targetOf g) (getD (columnStep (gateOf g) cs) (targetOf g) 0) n width)
 
 -- with the wires that have an output in a set, a target's digit is 1 where no other wire is in it
 abbrev free-of : Bool → Bool → Bool → Bool → ℕ → Bool

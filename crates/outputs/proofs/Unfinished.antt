@@ -24,34 +24,38 @@ use Rattle.table.proofs.Layouts.{wire-within, wire-fixed}
 use Rattle.columns.specs.declared.Wanted.{Wanted}
 use Rattle.columns.specs.Wanted.{misses, allRows, dirt, tidy}
 use Rattle.columns.specs.Finish.{Finish}
-use Rattle.outputs.specs.Owed.{missed, alone, owed, lost, product, mayControl, mendableOn, mendable, cleanable, stuck}
+use Rattle.outputs.specs.Owed.{missed, alone, owed, lost, upTo, product, adds, mendableOn, mendable, cleanable, fixable, stuck}
 use Rattle.outputs.proofs.Few.{missedOn, leftOn, missed-kept, tidy-kept, alone-missed, not-four, left-few, lost-few, finish-next, first-lawful}
 
-module _ (t : Wanted) (n free p : ℕ) (width : Width n) (m : List·Memᴰ p (layoutsFor n free)) (cs : List ℕ) where
-  mendable-at : (j : ℕ) → j < n → mendableOn t cs (wireOf p j) j ≡ true → mendable t cs n free ≡ true
+-- what a gate adds is among what gates of as many controls may add
+adds-gate : (k g : ℕ) (cs : List ℕ) (care want : ℕ) → lawful k 5 g ≡ true → bitAnd (product cs (maskOf g)) care ≡ want → adds (upTo k) cs (targetOf g) care want ≡ true
+unfolding adds
+adds-gate k g cs care want hg e =
+    let q = parts k 5 g hg in
+    some-at (λ m. both (upTo k (ones m)) (both (eqb (bitOf (targetOf g) m) 0) (eqb (bitAnd (product cs m) care) want))) 32 (maskOf g) (q .mask)
+    (both-true (le-leb (ones (maskOf g)) k (q .few)) (both-true (eq-eqb (bitOf (targetOf g) (maskOf g)) 0 (q .apart)) (eq-eqb _ _ e)))
+
+module _ (k : ℕ) (t : Wanted) (n free p : ℕ) (width : Width n) (m : List·Memᴰ p (layoutsFor n free)) (cs : List ℕ) where
+  mendable-at : (j : ℕ) → j < n → mendableOn (upTo k) t cs (wireOf p j) j ≡ true → mendable (upTo k) t cs n free ≡ true
   unfolding mendable
   mendable-at j l h = by-free (ℕ-discrete free 1)
     where
-      by-free : Dec (free ≡ 1) → someBelow n (λ w. pick (eqb free 1) (someBelow n (mendableOn t cs w)) (mendableOn t cs w w)) ≡ true
-      by-free (yes e) = some-at _ n (wireOf p j) (wire-within n free p width m j l) (rw (eq-eqb free 1 e) (some-at (mendableOn t cs (wireOf p j)) n j l h))
+      by-free : Dec (free ≡ 1) → someBelow n (λ w. pick (eqb free 1) (someBelow n (mendableOn (upTo k) t cs w)) (mendableOn (upTo k) t cs w w)) ≡ true
+      by-free (yes e) = some-at _ n (wireOf p j) (wire-within n free p width m j l) (rw (eq-eqb free 1 e) (some-at (mendableOn (upTo k) t cs (wireOf p j)) n j l h))
       by-free (no f) = some-at _ n j l (rw (ne-eqb free 1 f) (rw (wire-fixed n free p width m f j l) at h))
 
-  module _ (g : ℕ) (hg : lawful 2 5 g ≡ true) (five : length cs ≡ 5) where
+  module _ (g : ℕ) (hg : lawful k 5 g ≡ true) (five : length cs ≡ 5) where
     -- a gate that puts an output right on its target adds the rows that missed it
-    gate-mends : (j : ℕ) → missed t cs (targetOf g) j ≡ true → misses t (getD (columnStep (gateOf g) cs) (targetOf g) 0) j ≡ 0 → mendableOn t cs (targetOf g) j ≡ true
+    gate-mends : (j : ℕ) → missed t cs (targetOf g) j ≡ true → misses t (getD (columnStep (gateOf g) cs) (targetOf g) 0) j ≡ 0 → mendableOn (upTo k) t cs (targetOf g) j ≡ true
     unfolding mendableOn misses columnStep gateOf
     gate-mends j h z =
-        let q = parts 2 5 g hg in
+        let q = parts k 5 g hg in
         let care = getD (t .care) j 0 in
-        let f = firing (kindFor (ones (maskOf g)) (maskOf g)) cs in
+        let f = product cs (maskOf g) in
         let s = getD-set-same cs (targetOf g) (bitXor (getD cs (targetOf g) 0) f) 0 (omega (arith, q .target)) in
-        let e = xor-mends care (getD cs (targetOf g) 0) f (getD (t .value) j 0) (rw s at z) in
-        let few = le-leb (ones (maskOf g)) 2 (q .few) in
-        let added : product cs (maskOf g) ≡ f = rw few in
-        both-true h (some-at (λ m. both (mayControl (targetOf g) m) (eqb (bitAnd (product cs m) care) (misses t (getD cs (targetOf g) 0) j))) 32 (maskOf g) (q .mask)
-        (both-true (both-true few (eq-eqb (bitOf (targetOf g) (maskOf g)) 0 (q .apart))) (eq-eqb _ _ (ap (λ x. bitAnd x care) added ∙ e))))
+        both-true h (adds-gate k g cs care (misses t (getD cs (targetOf g) 0) j) hg (xor-mends care (getD cs (targetOf g) 0) f (getD (t .value) j 0) (rw s at z)))
 
-    still-missed : mendable t cs n free ≡ false → (j : ℕ) → j < n → alone t cs n free 4 j ≡ true → missed t (columnStep (gateOf g) cs) (wireOf p j) j ≡ true
+    still-missed : mendable (upTo k) t cs n free ≡ false → (j : ℕ) → j < n → alone t cs n free 4 j ≡ true → missed t (columnStep (gateOf g) cs) (wireOf p j) j ≡ true
     unfolding gateOf
     still-missed u j l h = by-wire (ℕ-discrete (wireOf p j) (targetOf g))
       where
@@ -67,23 +71,19 @@ module _ (t : Wanted) (n free p : ℕ) (width : Width n) (m : List·Memᴰ p (la
         by-wire (no f) = rw (missed-kept t (gateOf g) cs (wireOf p j) j f) now
 
     -- a gate that puts the ancilla at 0 adds the rows in which it was not
-    gate-cleans : n ≡ targetOf g → not (tidy n cs) ≡ true → dirt n (getD (columnStep (gateOf g) cs) n 0) ≡ 0 → cleanable cs n ≡ true
+    gate-cleans : n ≡ targetOf g → not (tidy n cs) ≡ true → dirt n (getD (columnStep (gateOf g) cs) n 0) ≡ 0 → cleanable (upTo k) cs n ≡ true
     unfolding cleanable dirt columnStep gateOf
     gate-cleans e h z =
-        let q = parts 2 5 g hg in
+        let q = parts k 5 g hg in
         let a = getD cs n 0 in
-        let f = firing (kindFor (ones (maskOf g)) (maskOf g)) cs in
+        let f = product cs (maskOf g) in
         let s = getD-set-same cs n (bitXor a f) 0 (omega (arith, q .target)) in
         let x = rw (← e, s) at z in
         let y = xor-mends (allRows n) a f 0 (ap (λ c. bitAnd c (allRows n)) (xor-zero-r (bitXor a f)) ∙ x)
         ∙ ap (λ c. bitAnd c (allRows n)) (xor-zero-r a) in
-        let few = le-leb (ones (maskOf g)) 2 (q .few) in
-        let added : product cs (maskOf g) ≡ f = rw few in
-        let apart = rw (← e) at (q .apart) in
-        both-true h (some-at (λ m. both (mayControl n m) (eqb (bitAnd (product cs m) (allRows n)) (bitAnd a (allRows n)))) 32 (maskOf g) (q .mask)
-        (both-true (both-true few (eq-eqb (bitOf n (maskOf g)) 0 apart)) (eq-eqb _ _ (ap (λ x. bitAnd x (allRows n)) added ∙ y))))
+        both-true h (ap (λ w. adds (upTo k) cs w (allRows n) (bitAnd a (allRows n))) e ∙ adds-gate k g cs (allRows n) (bitAnd a (allRows n)) hg y)
 
-    still-dirty : cleanable cs n ≡ false → bit (not (tidy n cs)) ≤ bit (not (tidy n (columnStep (gateOf g) cs)))
+    still-dirty : cleanable (upTo k) cs n ≡ false → bit (not (tidy n cs)) ≤ bit (not (tidy n (columnStep (gateOf g) cs)))
     unfolding gateOf
     still-dirty u = by-wire (ℕ-discrete n (targetOf g))
       where
@@ -96,10 +96,10 @@ module _ (t : Wanted) (n free p : ℕ) (width : Width n) (m : List·Memᴰ p (la
         by-wire (yes e) = by-now e (tidy n cs) (tidy n (columnStep (gateOf g) cs)) refl refl
         by-wire (no f) = rw (tidy-kept (gateOf g) cs n f) (omega arith)
 
-    lost-left : either (cleanable cs n) (mendable t cs n free) ≡ false → lost t cs n free ≤ leftOn t n p (columnStep (gateOf g) cs)
-    unfolding lost owed
+    lost-left : fixable (upTo k) t cs n free ≡ false → lost t cs n free ≤ leftOn t n p (columnStep (gateOf g) cs)
+    unfolding lost owed fixable
     lost-left u =
-        let v = either-neither (cleanable cs n) (mendable t cs n free) u in
+        let v = either-neither (cleanable (upTo k) cs n) (mendable (upTo k) t cs n free) u in
         omega (
           arith,
           count-more (alone t cs n free 4) (missedOn t p (columnStep (gateOf g) cs)) n (still-missed (v .1)),
@@ -107,26 +107,26 @@ module _ (t : Wanted) (n free p : ℕ) (width : Width n) (m : List·Memᴰ p (la
         )
 
 -- where no gate mends an output or the ancilla, a way to finish has one gate more than are missed
-one-more : (t : Wanted) (n free : ℕ) (cs e : List ℕ) (p : ℕ) → Finish 2 t n free cs e p → either (cleanable cs n) (mendable t cs n free) ≡ false → 0 < lost t cs n free
+one-more : (k : ℕ) (t : Wanted) (n free : ℕ) (cs e : List ℕ) (p : ℕ) → Finish k t n free cs e p → fixable (upTo k) t cs n free ≡ false → 0 < lost t cs n free
     → lost t cs n free < length e
-one-more t n free cs [] p f u h = omega (arith, lost-few 2 t n free cs [] p f)
-one-more t n free cs (g ∷ e) p f u h =
+one-more k t n free cs [] p f u h = omega (arith, lost-few k t n free cs [] p f)
+one-more k t n free cs (g ∷ e) p f u h =
     omega (
       arith,
-      lost-left t n free p (f .width) (f .laid) cs g (first-lawful 2 t n free cs g e p f) (f .five) u,
-      left-few 2 t n free (columnStep (gateOf g) cs) e p (finish-next 2 t n free cs g e p f),
+      lost-left k t n free p (f .width) (f .laid) cs g (first-lawful k t n free cs g e p f) (f .five) u,
+      left-few k t n free (columnStep (gateOf g) cs) e p (finish-next k t n free cs g e p f),
     )
 
-pub stuck-none : (t : Wanted) (n free : ℕ) (cs e : List ℕ) (p most : ℕ) → Finish 2 t n free cs e p → stuck t cs n free most ≡ true → length e ≤ most → ⊥
+pub stuck-none : (k : ℕ) (t : Wanted) (n free : ℕ) (cs e : List ℕ) (p reach : ℕ) → Finish k t n free cs e p → stuck k t cs n free reach ≡ true → length e ≤ reach → ⊥
 unfolding stuck
-stuck-none t n free cs e p most f u le = by-size (ℕ-discrete (lost t cs n free) most)
+stuck-none k t n free cs e p reach f u le = by-size (ℕ-discrete (lost t cs n free) reach)
   where
     some : Bool
-    some = either (cleanable cs n) (mendable t cs n free)
+    some = fixable (upTo k) t cs n free
 
-    by-size : Dec (lost t cs n free ≡ most) → ⊥
+    by-size : Dec (lost t cs n free ≡ reach) → ⊥
     by-size (yes s) =
-        let b = rw (eq-eqb (lost t cs n free) most s) at u in
-        let z = eqb-false most 0 (not-true (eqb most 0) (both-left (not (eqb most 0)) (not some) b)) in
-        omega (arith, one-more t n free cs e p f (not-true some (both-right (not (eqb most 0)) (not some) b)) (omega arith))
-    by-size (no s) = omega (arith, ltb-true most (lost t cs n free) (rw (ne-eqb (lost t cs n free) most s) at u), lost-few 2 t n free cs e p f)
+        let b = rw (eq-eqb (lost t cs n free) reach s) at u in
+        let z = eqb-false reach 0 (not-true (eqb reach 0) (both-left (not (eqb reach 0)) (not some) b)) in
+        omega (arith, one-more k t n free cs e p f (not-true some (both-right (not (eqb reach 0)) (not some) b)) (omega arith))
+    by-size (no s) = omega (arith, ltb-true reach (lost t cs n free) (rw (ne-eqb (lost t cs n free) reach s) at u), lost-few k t n free cs e p f)

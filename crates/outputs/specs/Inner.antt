@@ -12,18 +12,29 @@ use Rattle.logic.specs.Bit.{bitOf}
 use Rattle.columns.specs.declared.Wanted.{Wanted}
 use Rattle.columns.specs.Wanted.{misses, fitting, dirt}
 use Rattle.outputs.specs.declared.Plan.{Plan}
-use Rattle.outputs.specs.Owed.{alone, spoilt, due, lost, product}
+use Rattle.outputs.specs.Owed.{alone, spoilt, due, lost, product, mendableOn, cleanable}
 
--- the products of the masks of at most two wires, in the order of their masks: what a gate may add to its target
-unfoldable pub productsOf : List ℕ → List ℕ
-productsOf cs = map (product cs) (keepOnly (λ m. leb (ones m) 2) (numbersFrom 0 32))
+-- the product of a mask of at most k wires; 0 for one of more
+abbrev pub productUpTo : ℕ → List ℕ → ℕ → ℕ
+productUpTo k cs m = pick (leb (ones m) k) (product cs m) 0
+
+-- the products are tested in two parts of 16: those of the masks of at most two wires and, where gates have three controls, the wider ones, in
+-- the order of their masks. A test of the part asks for the number of controls that it has
+abbrev pub part : Bool → ℕ → Bool
+part wide c = pick wide (eqb c 3) (leb c 2)
+
+abbrev pub masksOf : Bool → List ℕ
+masksOf wide = keepOnly (λ m. pick wide (leb 3 (ones m)) (leb (ones m) 2)) (numbersFrom 0 32)
+
+unfoldable pub productsOf : ℕ → Bool → List ℕ → List ℕ
+productsOf k wide cs = map (productUpTo k cs) (masksOf wide)
 
 abbrev pub four : List ℕ → List ℕ
 four xs = map (λ j. getD xs j 0) (numbersFrom 0 4)
 
--- what the tests of all gates at a node read: the product of each mask, at the mask's place, and the wanted columns
-unfoldable pub tableOf : Wanted → List ℕ → List ℕ
-tableOf t cs = map (product cs) (numbersFrom 0 32) ++ (four (t .value) ++ four (t .care))
+-- what the tests of all gates at a node read: the product of each mask of at most k wires, at the mask's place, and the wanted columns
+unfoldable pub tableOf : ℕ → Wanted → List ℕ → List ℕ
+tableOf k t cs = map (productUpTo k cs) (numbersFrom 0 32) ++ (four (t .value) ++ four (t .care))
 
 -- five digits in base 16, the lowest first
 abbrev pub digits : (ℕ → ℕ) → ℕ
@@ -79,9 +90,14 @@ spoiltSpots cs n = digits (λ wire. bit (spoilt cs n wire))
 abbrev pub packed : ℕ → ℕ → ℕ → ℕ → ℕ → ℕ → Plan
 packed a b c d e dirty = record { sets = a + 2 * b + 4 * c + 8 * d; sizes = a + b + c + d + e; lost = (a + b + c + d) / 65536 + dirty }
 
--- the products of wires other than w, a bit each
-abbrev pub othersOf : ℕ → ℕ
-othersOf w = pick (eqb w 0) 61141 (pick (eqb w 1) 56755 (pick (eqb w 2) 48015 (pick (eqb w 3) 30847 2047)))
+-- the products of a part that a gate on w may add, a bit each: those of other wires than w, and of no more than three
+abbrev pub othersOf : Bool → ℕ → ℕ
+othersOf wide w =
+    pick (eqb w 0) (pick wide 5256 61141)
+    (pick (eqb w 1) (pick wide 4676 56755)
+    (pick (eqb w 2) (pick wide 1570 48015)
+    (pick (eqb w 3) (pick wide 225 30847)
+    (pick wide 15 2047))))
 
 -- product i is allowed, and is what is wanted in the rows that care
 abbrev pub hitBit : ℕ → ℕ → ℕ → ℕ → ℕ → Bool
@@ -104,7 +120,12 @@ rowHits ps care k a l b m c o d =
     (either (mended ps m (getD care 2 0) c) (either (mended ps l (getD care 1 0) b) (either (mended ps k (getD care 0 0) a) false)))
 
 -- output 3 counts only where there are four
-unfoldable pub wireHits : List ℕ → Wanted → List ℕ → ℕ → ℕ → Bool
-wireHits ps t cs n w =
-    rowHits ps (t .care) (othersOf w) (misses t (getD cs w 0) 0) (othersOf w) (misses t (getD cs w 0) 1) (othersOf w) (misses t (getD cs w 0) 2)
-    (othersOf w) (pick (eqb n 4) (misses t (getD cs w 0) 3) 0)
+unfoldable pub wireHits : Bool → List ℕ → Wanted → List ℕ → ℕ → ℕ → Bool
+wireHits wide ps t cs n w =
+    rowHits ps (t .care) (othersOf wide w) (misses t (getD cs w 0) 0) (othersOf wide w) (misses t (getD cs w 0) 1)
+    (othersOf wide w) (misses t (getD cs w 0) 2) (othersOf wide w) (pick (eqb n 4) (misses t (getD cs w 0) 3) 0)
+
+-- some gate puts right an output that a layout may give to wire w, or the ancilla where that is w
+unfoldable pub fixesOn : (ℕ → Bool) → Wanted → List ℕ → ℕ → ℕ → ℕ → Bool
+fixesOn allowed t cs n free w =
+    pick (eqb n w) (cleanable allowed cs n) (pick (eqb free 1) (someBelow n (mendableOn allowed t cs w)) (mendableOn allowed t cs w w))

@@ -1,5 +1,7 @@
 -- Which outputs are owed, and which next gates can keep up with them. A gate changes one column, its target's: what the other wires miss it
 -- leaves to later gates. The ancilla, wire n, owes a column of zeros.
+use mathlib.Core.Path.{_≡_}
+use mathlib.Core.Logic.{_⊎_}
 use mathlib.Core.Bool.{Bool, not}
 use mathlib.Core.List.{List}
 use Prim.Native.Nat.{ℕ, _+_}
@@ -46,37 +48,48 @@ mends t cs n free wire column =
     pick (eqb n wire) (eqb (dirt n column) 0)
     (both (ltb wire n) (pick (eqb free 1) (someBelow n (λ j. both (alone t cs n free wire j) (fitting t column j))) (fitting t column wire)))
 
--- gate g can begin a list of at most k gates that realizes the table: where all k are owed, it must mend its target
+-- gate g can begin a list of at most `reach` gates that realizes the table: where all of them are owed, it must mend its target
 unfoldable pub worth : Wanted → List ℕ → ℕ → ℕ → ℕ → ℕ → Bool
-worth t cs n free g k =
-    pick (eqb (due t cs n free (targetOf g)) k)
+worth t cs n free g reach =
+    pick (eqb (due t cs n free (targetOf g)) reach)
     (mends t cs n free (targetOf g) (getD (columnStep (gateOf g) cs) (targetOf g) 0))
-    (ltb (due t cs n free (targetOf g)) k)
+    (ltb (due t cs n free (targetOf g)) reach)
 
--- the rows in which all wires of a mask are 1, for a mask of at most two wires
+-- "at most two ones", or three: the greatest number of controls
+abbrev pub Controls : ℕ → Type 0
+Controls k = (k ≡ 2) ⊎ (k ≡ 3)
+
+abbrev pub upTo : ℕ → ℕ → Bool
+upTo k c = leb c k
+
+-- the rows in which all wires of a mask of at most three are 1: what a gate with these controls adds to its target
 abbrev pub product : List ℕ → ℕ → ℕ
-product cs m = pick (leb (ones m) 2) (firing (kindFor (ones m) m) cs) 0
+product cs m = firing (kindFor (ones m) m) cs
 
--- a gate on wire w may have the control mask m: at most two wires, and not w
-abbrev pub mayControl : ℕ → ℕ → Bool
-mayControl w m = both (leb (ones m) 2) (eqb (bitOf w m) 0)
+-- some gate on wire w, with a number of controls that is allowed, adds in the rows that care just what is wanted
+unfoldable pub adds : (ℕ → Bool) → List ℕ → ℕ → ℕ → ℕ → Bool
+adds allowed cs w care want =
+    someBelow 32 (λ m. both (allowed (ones m)) (both (eqb (bitOf w m) 0) (eqb (bitAnd (product cs m) care) want)))
 
--- output j is missed on wire w, and what some gate on w adds is 1, in the rows that care, in just those that miss it
-unfoldable pub mendableOn : Wanted → List ℕ → ℕ → ℕ → Bool
-mendableOn t cs w j =
-    both (missed t cs w j) (someBelow 32 (λ m. both (mayControl w m) (eqb (bitAnd (product cs m) (getD (t .care) j 0)) (misses t (getD cs w 0) j))))
+-- output j is missed on wire w, and some gate on w adds 1, in the rows that care, in just those that miss it
+unfoldable pub mendableOn : (ℕ → Bool) → Wanted → List ℕ → ℕ → ℕ → Bool
+mendableOn allowed t cs w j = both (missed t cs w j) (adds allowed cs w (getD (t .care) j 0) (misses t (getD cs w 0) j))
 
 -- so for some output on a wire that a layout may give it
-unfoldable pub mendable : Wanted → List ℕ → ℕ → ℕ → Bool
-mendable t cs n free = someBelow n (λ w. pick (eqb free 1) (someBelow n (mendableOn t cs w)) (mendableOn t cs w w))
+unfoldable pub mendable : (ℕ → Bool) → Wanted → List ℕ → ℕ → ℕ → Bool
+mendable allowed t cs n free =
+    someBelow n (λ w. pick (eqb free 1) (someBelow n (mendableOn allowed t cs w)) (mendableOn allowed t cs w w))
 
--- the ancilla is not at 0, and what some gate on it adds is 1 in just the rows in which it is not
-unfoldable pub cleanable : List ℕ → ℕ → Bool
-cleanable cs n =
-    both (not (tidy n cs)) (someBelow 32 (λ m. both (mayControl n m) (eqb (bitAnd (product cs m) (allRows n)) (dirt n (getD cs n 0)))))
+-- the ancilla is not at 0, and some gate on it adds 1 in just the rows in which it is not
+unfoldable pub cleanable : (ℕ → Bool) → List ℕ → ℕ → Bool
+cleanable allowed cs n = both (not (tidy n cs)) (adds allowed cs n (allRows n) (dirt n (getD cs n 0)))
 
--- no list of at most k gates goes on from these columns to the table: too many outputs are missed, or just as many and no gate mends one,
--- the ancilla counted in
-unfoldable pub stuck : Wanted → List ℕ → ℕ → ℕ → ℕ → Bool
-stuck t cs n free k =
-    pick (eqb (lost t cs n free) k) (both (not (eqb k 0)) (not (either (cleanable cs n) (mendable t cs n free)))) (ltb k (lost t cs n free))
+-- some gate puts an output or the ancilla right
+unfoldable pub fixable : (ℕ → Bool) → Wanted → List ℕ → ℕ → ℕ → Bool
+fixable allowed t cs n free = either (cleanable allowed cs n) (mendable allowed t cs n free)
+
+-- no list of at most `reach` gates, each of at most k controls, goes on from these columns to the table: too many outputs are missed, or just
+-- as many and no gate puts one right, the ancilla counted in
+unfoldable pub stuck : ℕ → Wanted → List ℕ → ℕ → ℕ → ℕ → Bool
+stuck k t cs n free reach =
+    pick (eqb (lost t cs n free) reach) (both (not (eqb reach 0)) (not (fixable (upTo k) t cs n free))) (ltb reach (lost t cs n free))

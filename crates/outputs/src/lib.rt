@@ -1,19 +1,19 @@
 // Which outputs are owed, and which next gates can keep up with them: a gate changes its target's column only. The ancilla owes zeros.
 use columns::Wanted;
 ghost use mathlib.Core.Path.{_≡_};
-ghost use mathlib.Core.Bool.{true};
-ghost use mathlib.Core.List.{List};
+ghost use mathlib.Core.Bool.{true, false, not};
+ghost use mathlib.Core.List.{List, [], _∷_};
 ghost use Prim.Native.Nat.{ℕ, _+_, _≤_, _<_};
 ghost use lib.Dec.{eqb};
 ghost use lib.ListN.{length, getD};
-ghost use Rattle.logic.specs.Rules.{pick, bit, allBelow};
+ghost use Rattle.logic.specs.Rules.{both, pick, bit, allBelow};
 ghost use Rattle.gate.specs.Gates.{targetOf, lawful, gateOf};
 ghost use Rattle.gate.specs.Inner.{columnStep};
 ghost use Rattle.table.specs.Layouts.{Width};
 ghost use Rattle.columns.specs.declared.Wanted.{Wanted};
 ghost use Rattle.columns.specs.Wanted.{fitting, dirt, tidy};
-ghost use Rattle.outputs.specs.Owed.{missed, owed, lost, worth, mendable, cleanable, stuck};
-ghost use Rattle.outputs.specs.Inner.{productsOf, tableOf, planOf, hasOutput, hasOne, mendsBy, placesOf, spreadOf, spotsOf, spoiltSpots, packed, othersOf, hitBit, hitsOf, rowHits, wireHits};
+ghost use Rattle.outputs.specs.Owed.{missed, owed, lost, worth, Controls, adds, mendable, cleanable, fixable, stuck};
+ghost use Rattle.outputs.specs.Inner.{part, productsOf, tableOf, planOf, hasOutput, hasOne, mendsBy, placesOf, spreadOf, spotsOf, spoiltSpots, packed, othersOf, hitBit, hitsOf, rowHits, wireHits, fixesOn};
 
 // What one look at a node says of all next gates: four bits a target, the outputs alone for it and how many they are, the ancilla counted in.
 pub struct Plan {
@@ -24,7 +24,7 @@ pub struct Plan {
 
 // The products of at most two columns, in the order of their masks: what a gate may add to its target.
 fn products(columns: [u16; 5]) -> [u16; 16]
-    ensures { λ r. ⌜ r ≡ productsOf columns ⌝ }
+    ensures { λ r. ⌜ r ≡ productsOf 3 false columns ⌝ }
 {
     let a = columns[0];
     let b = columns[1];
@@ -51,11 +51,54 @@ fn products(columns: [u16; 5]) -> [u16; 16]
     ]
 }
 
-// The product of each mask of at most two wires, at the mask's place, then the values and the cares: one slice to lend to every test.
-pub fn table_of(t: Wanted, columns: [u16; 5]) -> [u16; 40]
-    ensures { λ r. ⌜ r ≡ tableOf t columns ⌝ }
+// The products of three columns, in the order of their masks, with nothing for the masks of more wires.
+fn triples(columns: [u16; 5]) -> [u16; 16]
+    ensures { λ r. ⌜ r ≡ productsOf 3 true columns ⌝ }
+{
+    let a = columns[0];
+    let b = columns[1];
+    let c = columns[2];
+    let d = columns[3];
+    let e = columns[4];
+    [
+        a & b & c,
+        a & b & d,
+        a & c & d,
+        b & c & d,
+        0,
+        a & b & e,
+        a & c & e,
+        b & c & e,
+        0,
+        a & d & e,
+        b & d & e,
+        0,
+        c & d & e,
+        0,
+        0,
+        0,
+    ]
+}
+
+// The products of the masks of three or more wires: none where a gate has two controls at most.
+fn wider(controls: usize, columns: [u16; 5]) -> [u16; 16]
+    requires { ⌜ Controls controls ⌝ }
+    ensures { λ r. ⌜ r ≡ productsOf controls true columns ⌝ }
+{
+    if controls == 3 {
+        triples(columns)
+    } else {
+        [0u16; 16]
+    }
+}
+
+// The product of each mask that a gate may have, at the mask's place, then the values and the cares: one slice to lend to every test.
+pub fn table_of(controls: usize, t: Wanted, columns: [u16; 5]) -> [u16; 40]
+    requires { ⌜ Controls controls ⌝ }
+    ensures { λ r. ⌜ r ≡ tableOf controls t columns ⌝ }
 {
     let ps = products(columns);
+    let qs = wider(controls, columns);
     let value = t.value;
     let care = t.care;
     [
@@ -66,28 +109,28 @@ pub fn table_of(t: Wanted, columns: [u16; 5]) -> [u16; 40]
         ps[4],
         ps[5],
         ps[6],
-        0,
+        qs[0],
         ps[7],
         ps[8],
         ps[9],
-        0,
+        qs[1],
         ps[10],
-        0,
-        0,
+        qs[2],
+        qs[3],
         0,
         ps[11],
         ps[12],
         ps[13],
-        0,
+        qs[5],
         ps[14],
-        0,
-        0,
+        qs[6],
+        qs[7],
         0,
         ps[15],
+        qs[9],
+        qs[10],
         0,
-        0,
-        0,
-        0,
+        qs[12],
         0,
         0,
         0,
@@ -105,8 +148,8 @@ pub fn table_of(t: Wanted, columns: [u16; 5]) -> [u16; 40]
 // The target's column after a gate.
 fn next_column(table: &[u16], g: u8) -> u16
     requires { ⌜ length (now table) ≡ 40 ⌝ }
-    requires { ⌜ lawful 2 5 g ≡ true ⌝ }
-    ensures { λ r. ⌜ ((t : Wanted) (cs : List ℕ) → length cs ≡ 5 → now (table .entry) ≡ tableOf t cs → r ≡ getD (columnStep (gateOf g) cs) (targetOf g) 0) ⌝ }
+    requires { ⌜ targetOf g < 5 ⌝ }
+    ensures { λ r. ⌜ ((k : ℕ) (t : Wanted) (cs : List ℕ) → Controls k → lawful k 5 g ≡ true → length cs ≡ 5 → now (table .entry) ≡ tableOf k t cs → r ≡ getD (columnStep (gateOf g) cs) (targetOf g) 0) ⌝ }
 {
     let w = (g / 32) as usize;
     table[1 << w] ^ table[(g % 32) as usize]
@@ -115,8 +158,8 @@ fn next_column(table: &[u16], g: u8) -> u16
 // All columns after a gate.
 pub fn step(table: &[u16], columns: [u16; 5], g: u8) -> [u16; 5]
     requires { ⌜ length (now table) ≡ 40 ⌝ }
-    requires { ⌜ lawful 2 5 g ≡ true ⌝ }
-    ensures { λ r. ⌜ ((t : Wanted) → now (table .entry) ≡ tableOf t columns → r ≡ columnStep (gateOf g) columns) ⌝ }
+    requires { ⌜ targetOf g < 5 ⌝ }
+    ensures { λ r. ⌜ ((k : ℕ) (t : Wanted) → Controls k → lawful k 5 g ≡ true → now (table .entry) ≡ tableOf k t columns → r ≡ columnStep (gateOf g) columns) ⌝ }
 {
     let t = (g / 32) as usize;
     logic::with_cell(columns, t, next_column(table, g))
@@ -168,9 +211,9 @@ fn mends(table: &[u16], set: u32, n: usize, free: usize, w: usize, column: u16) 
 // Whether gate `g` can begin a list of at most `reach` gates that realizes the table.
 pub fn worth(table: &[u16], plan: Plan, n: usize, free: usize, g: u8, reach: usize) -> bool
     requires { ⌜ length (now table) ≡ 40 ⌝ }
-    requires { ⌜ lawful 2 5 g ≡ true ⌝ }
+    requires { ⌜ targetOf g < 5 ⌝ }
     requires { ⌜ Width n ⌝ }
-    ensures { λ r. ⌜ ((t : Wanted) (cs : List ℕ) → length cs ≡ 5 → now (table .entry) ≡ tableOf t cs → plan ≡ planOf t cs n free → r ≡ worth t cs n free g reach) ⌝ }
+    ensures { λ r. ⌜ ((k : ℕ) (t : Wanted) (cs : List ℕ) → Controls k → lawful k 5 g ≡ true → length cs ≡ 5 → now (table .entry) ≡ tableOf k t cs → plan ≡ planOf t cs n free → r ≡ worth t cs n free g reach) ⌝ }
 {
     let w = (g / 32) as usize;
     let size = ((plan.sizes >> (4 * w)) % 16) as usize;
@@ -311,17 +354,17 @@ pub fn plan_of(t: Wanted, columns: [u16; 5], n: usize, free: usize) -> Plan
     }
 }
 
-// The products of wires other than `w`, a bit each: what a gate on `w` may add.
-fn others(w: usize) -> u16
+// The products of wires other than `w`, a bit each: what a gate on `w` may add, of the products of three columns or of fewer.
+fn others(wide: bool, w: usize) -> u16
     requires { ⌜ w < 5 ⌝ }
-    ensures { λ r. ⌜ r ≡ othersOf w ⌝ }
+    ensures { λ r. ⌜ r ≡ othersOf wide w ⌝ }
 {
     match w {
-        0 => 0xEED5,
-        1 => 0xDDB3,
-        2 => 0xBB8F,
-        3 => 0x787F,
-        _ => 0x07FF,
+        0 => logic::picked(wide, 0x1488, 0xEED5),
+        1 => logic::picked(wide, 0x1244, 0xDDB3),
+        2 => logic::picked(wide, 0x0622, 0xBB8F),
+        3 => logic::picked(wide, 0x00E1, 0x787F),
+        _ => logic::picked(wide, 0x000F, 0x07FF),
     }
 }
 
@@ -396,13 +439,13 @@ fn row_hits(
 }
 
 // Whether some product mends an output on wire `w`.
-fn wire_hits(t: Wanted, columns: [u16; 5], ps: [u16; 16], n: usize, w: usize) -> u16
+fn wire_hits(wide: bool, t: Wanted, columns: [u16; 5], ps: [u16; 16], n: usize, w: usize) -> u16
     requires { ⌜ w < 4 ⌝ }
-    ensures { λ r. ⌜ r ≡ bit (wireHits ps t columns n w) ⌝ }
+    ensures { λ r. ⌜ r ≡ bit (wireHits wide ps t columns n w) ⌝ }
 {
     let care = t.care;
     let column = columns[w];
-    let k = others(w);
+    let k = others(wide, w);
     row_hits(
         ps,
         care,
@@ -417,54 +460,104 @@ fn wire_hits(t: Wanted, columns: [u16; 5], ps: [u16; 16], n: usize, w: usize) ->
     )
 }
 
-// Whether some product mends an output on a wire that a layout may give it: one function, which the compiler then inlines.
+// Whether some product of at most two columns mends an output on a wire that a layout may give it: one function, which the compiler then
+// inlines.
 fn mendable(t: Wanted, columns: [u16; 5], n: usize, free: usize) -> u16
     requires { ⌜ Width n ⌝ }
-    ensures { λ r. ⌜ r ≡ bit (mendable t columns n free) ⌝ }
+    ensures { λ r. ⌜ r ≡ bit (mendable (part false) t columns n free) ⌝ }
 {
     let ps = products(columns);
     if free == 1 {
-        logic::picked(n == 4, wire_hits(t, columns, ps, n, 3), 0)
-            | (wire_hits(t, columns, ps, n, 2)
-                | (wire_hits(t, columns, ps, n, 1) | wire_hits(t, columns, ps, n, 0)))
+        logic::picked(n == 4, wire_hits(false, t, columns, ps, n, 3), 0)
+            | (wire_hits(false, t, columns, ps, n, 2)
+                | (wire_hits(false, t, columns, ps, n, 1) | wire_hits(false, t, columns, ps, n, 0)))
     } else {
         let care = t.care;
         row_hits(
             ps,
             care,
-            others(0),
+            others(false, 0),
             columns::misses(t, columns[0], 0),
-            others(1),
+            others(false, 1),
             columns::misses(t, columns[1], 1),
-            others(2),
+            others(false, 2),
             columns::misses(t, columns[2], 2),
-            others(3),
+            others(false, 3),
             logic::picked(n == 4, columns::misses(t, columns[3], 3), 0),
         )
     }
 }
 
-// Whether the ancilla is not at 0 in some rows, `spilt`, and some product that a gate may add to it puts it there.
+// Whether some product that a gate on wire `w` may add is what is wanted in the rows that care, if anything is.
+fn one_hit(wide: bool, ps: [u16; 16], w: usize, care: u16, want: u16) -> u16
+    requires { ⌜ w < 5 ⌝ }
+    ensures { λ r. ⌜ ((cs : List ℕ) → ps ≡ productsOf 3 wide cs → r ≡ bit (both (not (eqb want 0)) (adds (part wide) cs w care want))) ⌝ }
+{
+    row_hits(ps, [care, 0, 0, 0], others(wide, w), want, 0, 0, 0, 0, 0, 0)
+}
+
+// Whether the ancilla is not at 0 in some rows, `spilt`, and some product of at most two columns puts it there.
 fn cleanable(n: usize, columns: [u16; 5], spilt: u16) -> bool
     requires { ⌜ Width n ⌝ }
     requires { ⌜ spilt ≡ dirt n (getD columns n 0) ⌝ }
-    ensures { λ r. ⌜ r ≡ cleanable columns n ⌝ }
+    ensures { λ r. ⌜ r ≡ cleanable (part false) columns n ⌝ }
 {
     if spilt == 0 {
         return false;
     }
-    row_hits(
-        products(columns),
-        [columns::all_rows(n), 0, 0, 0],
-        others(n),
-        spilt,
-        0,
-        0,
-        0,
-        0,
-        0,
-        0,
-    )
+    one_hit(false, products(columns), n, columns::all_rows(n), spilt) == 1
+}
+
+// Whether some product of three columns puts an output on wire `w` right, or the ancilla where that is `w`. The columns come one by one, so
+// that a caller that never asks need not hold them in memory.
+fn wide_hits(
+    t: Wanted,
+    a: u16,
+    b: u16,
+    c: u16,
+    d: u16,
+    e: u16,
+    n: usize,
+    free: usize,
+    w: usize,
+) -> u16
+    requires { ⌜ Width n ⌝ }
+    requires { ⌜ w ≤ n ⌝ }
+    ensures { λ r. ⌜ r ≡ bit (fixesOn (part true) t (a ∷ b ∷ c ∷ d ∷ e ∷ []) n free w) ⌝ }
+{
+    let columns = [a, b, c, d, e];
+    let ps = triples(columns);
+    if n == w {
+        return one_hit(
+            true,
+            ps,
+            n,
+            columns::all_rows(n),
+            columns::dirt(n, columns[n]),
+        );
+    }
+    if free == 1 {
+        return wire_hits(true, t, columns, ps, n, w);
+    }
+    let care = t.care;
+    one_hit(true, ps, w, care[w], columns::misses(t, columns[w], w))
+}
+
+// Whether some product of three columns puts an output or the ancilla right.
+fn wide_fixable(t: Wanted, columns: [u16; 5], n: usize, free: usize) -> bool
+    requires { ⌜ Width n ⌝ }
+    ensures { λ r. ⌜ r ≡ fixable (part true) t columns n free ⌝ }
+{
+    let a = columns[0];
+    let b = columns[1];
+    let c = columns[2];
+    let d = columns[3];
+    let e = columns[4];
+    wide_hits(t, a, b, c, d, e, n, free, n)
+        | (logic::picked(n == 4, wide_hits(t, a, b, c, d, e, n, free, 3), 0)
+            | (wide_hits(t, a, b, c, d, e, n, free, 2)
+                | (wide_hits(t, a, b, c, d, e, n, free, 1)
+                    | wide_hits(t, a, b, c, d, e, n, free, 0))))
         == 1
 }
 
@@ -520,9 +613,16 @@ fn missing(t: Wanted, columns: [u16; 5], n: usize, free: usize) -> usize
 }
 
 // Whether no list of at most `reach` gates goes on from these columns to the table: where each gate left must mend an output, none can.
-pub fn stuck(t: Wanted, columns: [u16; 5], n: usize, free: usize, reach: usize) -> bool
-    requires { ⌜ Width n ⌝ }
-    ensures { λ r. ⌜ r ≡ stuck t columns n free reach ⌝ }
+pub fn stuck(
+    controls: usize,
+    t: Wanted,
+    columns: [u16; 5],
+    n: usize,
+    free: usize,
+    reach: usize,
+) -> bool
+    requires { ⌜ Controls controls × Width n ⌝ }
+    ensures { λ r. ⌜ r ≡ stuck controls t columns n free reach ⌝ }
 {
     let dirt = spilt(n, columns);
     let least = missing(t, columns, n, free) + one(dirt != 0) as usize;
@@ -535,5 +635,11 @@ pub fn stuck(t: Wanted, columns: [u16; 5], n: usize, free: usize, reach: usize) 
     if cleanable(n, columns, dirt) {
         return false;
     }
-    mendable(t, columns, n, free) == 0
+    if mendable(t, columns, n, free) != 0 {
+        return false;
+    }
+    if controls == 2 {
+        return true;
+    }
+    !wide_fixable(t, columns, n, free)
 }

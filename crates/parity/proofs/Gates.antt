@@ -14,7 +14,8 @@ use Rattle.gate.specs.Gates.{lawful, step}
 use Rattle.gate.proofs.Widen.{lawful-lt}
 use Rattle.table.specs.Layouts.{layoutOk}
 use Rattle.parity.specs.Parity.{smaller, inversions}
-use Rattle.parity.specs.Inner.{oddGate, laidOut}
+use Rattle.parity.specs.Ends.{threeControls}
+use Rattle.parity.specs.Inner.{laidOut}
 use Rattle.parity.proofs.Pairs.{pairs, sorted, pairs-sorted}
 use Rattle.parity.proofs.Turning.{rows16, Turning}
 
@@ -74,17 +75,17 @@ tested f n h =
     }
 
 abbrev gateTurns : ℕ → Bool
-gateTurns b = implies (lawful 3 4 b) (turning (step b) (oddGate b))
+gateTurns b = implies (lawful 3 4 b) (turning (step b) (threeControls b))
 
 gates-turn : allBelow 160 gateTurns ≡ true
 unfolding lawful step ones onesIn rows16 inversions smaller total
 gates-turn = refl
 
 -- three controls make a gate odd
-pub gate : (b : ℕ) → lawful 3 4 b ≡ true → Turning (step b) (oddGate b)
+pub gate : (b : ℕ) → lawful 3 4 b ≡ true → Turning (step b) (threeControls b)
 gate b h =
-    tested (step b) (oddGate b)
-    (implied (lawful 3 4 b) (turning (step b) (oddGate b)) (below 160 gateTurns gates-turn b (lawful-lt 3 4 b (lit≤ tt) h)) h)
+    tested (step b) (threeControls b)
+    (implied (lawful 3 4 b) (turning (step b) (threeControls b)) (below 160 gateTurns gates-turn b (lawful-lt 3 4 b (lit≤ tt) h)) h)
 
 abbrev layoutTurns : ℕ → Bool
 layoutTurns p = implies (layoutOk 4 p) (turning (laidOut p) 0)

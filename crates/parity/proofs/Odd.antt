@@ -1,10 +1,13 @@
 -- What makes a table odd, as a test and as a parity.
 use mathlib.Core.Path.{_≡_, refl}
+use mathlib.Core.Logic.{_↔_}
 use mathlib.Core.Bool.{Bool, true, false, false≢true}
-use Prim.Native.Nat.{ℕ}
+use Prim.Native.Nat.{ℕ, _%_}
 use native.Mathlib.Omega.{arith}
+use borrow.Author.Tests.{eqb-true, eq-eqb}
+use lib.Dec.{eqb}
 use Rattle.logic.specs.Rules.{both, pick}
-use Rattle.parity.specs.Parity.{Parity, even, odd, neither, isOdd}
+use Rattle.parity.specs.Parity.{Parity, even, odd, neither, isOdd, parityBy}
 
 pub odd-is : (p : Parity) → isOdd p ≡ true → p ≡ odd
 odd-is even h = absurd (false≢true h)
@@ -20,3 +23,6 @@ pub odd-parts : (p q : Bool) → pick p (pick q odd even) neither ≡ odd → (p
 odd-parts true true h = (refl, refl)
 odd-parts true false h = let z : _≡_ {A = ℕ} 0 1 = cc in absurd (omega arith)
 odd-parts false q h = let z : _≡_ {A = ℕ} 0 1 = cc in absurd (omega arith)
+
+pub odd-when : (n : ℕ) → (parityBy n ≡ odd) ↔ (n % 2 ≡ 1)
+odd-when n = (λ h. eqb-true (n % 2) 1 (odd-parts true (eqb (n % 2) 1) h .1), λ h. rw (eq-eqb (n % 2) 1 h))

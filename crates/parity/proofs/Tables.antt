@@ -20,9 +20,10 @@ use Rattle.table.specs.Rows.{careOf, valueOf}
 use Rattle.record.specs.Jobs.{dataWires, rows}
 use Rattle.table.specs.Layouts.{wireOf, layoutOk}
 use Rattle.parity.specs.Parity.{odd, values, fullRow, full, distinct, permutes, inversions, tableParity}
+use Rattle.parity.specs.Ends.{threeControlGates}
 use Rattle.parity.specs.Inner.{laidOut}
 use Rattle.parity.proofs.Odd.{odd-parts}
-use Rattle.parity.proofs.Even.{even-table}
+use Rattle.parity.proofs.Even.{layout-parity}
 
 -- a table row by row
 pub values-are : (f : ℕ → ℕ) (rs : List ℕ) (i : ℕ) → ((x : ℕ) → x < length rs → valueOf (getD rs x 0) ≡ f (i + x))
@@ -52,8 +53,8 @@ module _ (rs gs : List ℕ) (p : ℕ) (size : length rs ≡ 16) (met : (x : ℕ)
       ∙ ap (λ (y : ℕ). laidOut p (forwards gs y)) (sym (zero-add x)))
       ∙ ap (λ (n : ℕ). map (λ x. laidOut p (forwards gs x)) (numbersFrom 0 n)) size
 
-  pub rows-even : allOf (lawful 2 4) gs ≡ true → p < 256 → layoutOk 4 p ≡ true → inversions (map valueOf rs) % 2 ≡ 0
-  rows-even h hp ok = rw rows-are (even-table gs p h hp ok)
+  pub rows-parity : allOf (lawful 3 4) gs ≡ true → p < 256 → layoutOk 4 p ≡ true → inversions (map valueOf rs) % 2 ≡ threeControlGates gs % 2
+  rows-parity h hp ok = rw rows-are (layout-parity gs p h hp ok)
 
 module _ (job : List ℕ) (is-odd : tableParity job ≡ odd) where
   found : (permutes job ≡ true) × (eqb (inversions (values job) % 2) 1 ≡ true)
@@ -67,11 +68,11 @@ module _ (job : List ℕ) (is-odd : tableParity job ≡ odd) where
       let wide = both-left (full job) (distinct (values job)) (found .0) in
       eqb-true _ _ (all-at (fullRow (dataWires job)) (rows job) x 0 wide hx)
 
-  -- no list of gates with at most two controls makes an odd table on four wires, whatever its length and the layout
-  pub never : (gs : List ℕ) (p : ℕ) → length (rows job) ≡ 16 → allOf (lawful 2 4) gs ≡ true → p < 256 → layoutOk 4 p ≡ true
+  -- a list that makes an odd table on four wires has an odd number of three-control gates, whatever its length and the layout
+  pub odd-made : (gs : List ℕ) (p : ℕ) → length (rows job) ≡ 16 → allOf (lawful 3 4) gs ≡ true → p < 256 → layoutOk 4 p ≡ true
       → ((x : ℕ) → x < 16 → (j : ℕ) → j < 4 → bitOf (wireOf p j) (forwards gs x) ≡ bitOf j (valueOf (getD (rows job) x 0)))
-      → ⊥
-  never gs p size h hp ok met =
-      let e = rows-even (rows job) gs p size
+      → threeControlGates gs % 2 ≡ 1
+  odd-made gs p size h hp ok met =
+      let e = rows-parity (rows job) gs p size
       (λ x hx. bits-laid-out p (forwards gs x) (valueOf (getD (rows job) x 0)) (omega arith) (met x hx)) h hp ok in
-      omega (arith, eqb-true (inversions (values job) % 2) 1 (found .1))
+      sym e ∙ eqb-true (inversions (values job) % 2) 1 (found .1)

@@ -66,12 +66,12 @@ module _ (text : List ℕ) (h : Heading) (is : HeadingIs text h) where
           by-lines (some l) k = let n = k .1 .0 in rw (lt-leb (length l) 12 (omega arith))
 
       pub taken : b .sound ≡ true → b .count ≤ 12 → (length (namesAt text) ≡ h .wires)
-          → outcomeOf (parse text) ≡ answered (circuitBytes (h .wires - h .ancillas) (h .ancillas) (plain (h .wires - h .ancillas)) (take (b .count) (b .gates)))
+          → outcomeOf (parse text) ≡ answered (circuitBytes (h .wires - h .ancillas) (h .ancillas) false (plain (h .wires - h .ancillas)) (take (b .count) (b .gates)))
       unfolding recordOf dataCount
       taken s m w = ap outcomeOf parsed ∙ by-lines (linesAt (namesAt text) 0 (drop (h .end) text)) named
         where
           by-lines : (o : Option (List (List ℕ))) → BodyIs (namesAt text) o b
-              → outcome o ≡ answered (circuitBytes (h .wires - h .ancillas) (h .ancillas) (plain (h .wires - h .ancillas)) (take (b .count) (b .gates)))
+              → outcome o ≡ answered (circuitBytes (h .wires - h .ancillas) (h .ancillas) false (plain (h .wires - h .ancillas)) (take (b .count) (b .gates)))
           by-lines none k = absurd (false≢true (sym k ∙ s))
           by-lines (some l) k = let n = k .1 .0 in rw (le-leb (length l) 12 (omega arith), k .1 .1 m, is .spare, ← w)
 
@@ -82,7 +82,7 @@ module _ (c : Circuit) where
   code-refused (answered bytes) h n = absurd (n (h .0))
 
   pub code-answered : (o : Answer (List ℕ)) → CircuitIs o c → c .code ≡ 0
-      → (((c .n < 8) × (c .m < 4)) × (c .count ≤ 12)) × (o ≡ answered (circuitBytes (c .n) (c .m) (plain (c .n)) (take (c .count) (c .gates))))
+      → (((c .n < 8) × (c .m < 4)) × (c .count ≤ 12)) × (o ≡ answered (circuitBytes (c .n) (c .m) false (plain (c .n)) (take (c .count) (c .gates))))
   code-answered (refused k) h z = absurd (h .1 (sym (h .0) ∙ z))
   code-answered (answered bytes) h z = ((h .1 .0, h .1 .1 .0), ap answered (h .1 .1 .1))
 

@@ -5,22 +5,19 @@ use mathlib.Core.List.{List, map, _++_}
 use Prim.Native.Nat.{ℕ, _+_, _≤_, _<_}
 use native.Mathlib.Omega.{arith}
 use borrow.Author.Tests.{le-leb, lt-leb, ne-eqb}
-use lib.Dec.{eqb}
 use lib.ListN.{length, drop, length-append}
-use Rattle.logic.specs.Rules.{rule}
 use Rattle.logic.specs.Lists.{allOf}
-use Rattle.logic.proofs.Chain.{and-then-zero}
 use Rattle.gate.specs.Gates.{lawful}
 use Rattle.gate.proofs.Tables.{all-widen}
-use Rattle.table.specs.Layouts.{plain}
 use Rattle.record.specs.Jobs.{dataWires, ancillas, wires}
-use Rattle.record.specs.Circuits.{layoutOf, gates, circuitCode}
-use Rattle.record.proofs.Kept.{sound-circuit, circuit-wires-within}
+use Rattle.record.specs.Circuits.{gates, circuitCode}
+use Rattle.record.proofs.Kept.{circuit-wires-within}
 use Rattle.text.specs.Text.{inFront}
 use Rattle.text.specs.Writing.{Wrote}
 use Rattle.text.proofs.Pieces.{line-size, line-in-front}
 use Rattle.revlib.specs.Grammar.{body, render}
 use Rattle.revlib.specs.Writing.{Reply, lineFor, describe, textOf, textCode, writeOf, lengthOf, filled}
+use Rattle.revlib.proofs.RoundTrip.{text-rules, lawful-gates, text-short}
 use Rattle.rendering.specs.Parts.{headingFor}
 
 module _ (c : List ℕ) where
@@ -31,12 +28,17 @@ module _ (c : List ℕ) where
   pub text-length : length (textOf c) ≡ length (headingFor (dataWires c) (ancillas c)) + length (body (map lineFor (gates c)))
   text-length = ap length (sym text-parts) ∙ length-append (headingFor (dataWires c) (ancillas c)) (body (map lineFor (gates c)))
 
-  pub lawful-five : circuitCode c ≡ 0 → allOf (lawful 2 5) (gates c) ≡ true
-  lawful-five sound = all-widen 2 (wires c) 2 5 (omega arith) (circuit-wires-within c sound .1) (gates c) (sound-circuit c sound .kept)
-
+  -- what the rules of a text give
   pub code-sound : textCode c ≡ 0 → circuitCode c ≡ 0
-  unfolding textCode
-  code-sound h = and-then-zero (circuitCode c) (rule (eqb (layoutOf c) (plain (dataWires c))) 15 0) h .0
+  code-sound h = text-rules c h .0
+
+  pub lawful-five : textCode c ≡ 0 → allOf (lawful 2 5) (gates c) ≡ true
+  lawful-five h =
+      let p = text-rules c h in
+      all-widen 2 (wires c) 2 5 (omega arith) (circuit-wires-within c (p .0) .1) (gates c) (lawful-gates c (p .0) (p .1 .0))
+
+  pub text-small : textCode c ≡ 0 → length (textOf c) ≤ 193
+  text-small h = let p = text-rules c h in text-short c (p .0) (p .1 .0)
 
   module _ (out : List ℕ) where
     pub not-written : (code : ℕ) → code ≡ textCode c → (code ≡ 0 → ⊥) → writeOf c (length out) ≡ Reply.refused code

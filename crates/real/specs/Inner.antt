@@ -62,4 +62,4 @@ pub record HeadingIs (s : List ℕ) (h : Heading) : Type 0 where
 abbrev pub CircuitIs : Answer (List ℕ) → Circuit → Type 0
 CircuitIs (refused k) c = (c .code ≡ k) × (k ≡ 0 → ⊥)
 CircuitIs (answered bytes) c =
-    (c .code ≡ 0) × (((c .n < 8) × (c .m < 4)) × ((c .count ≤ 12) × (bytes ≡ circuitBytes (c .n) (c .m) (plain (c .n)) (take (c .count) (c .gates)))))
+    (c .code ≡ 0) × (((c .n < 8) × (c .m < 4)) × ((c .count ≤ 12) × (bytes ≡ circuitBytes (c .n) (c .m) false (plain (c .n)) (take (c .count) (c .gates)))))

@@ -383,18 +383,19 @@ pub fn read(text: &[u8], answer: &mut [u8]) -> Parsed
         return Parsed::Refused(c.code);
     }
     let gates = c.gates;
-    let size = record::write_record(c.n, c.m, plain(c.n), gates, c.count, answer);
+    let size = record::write_record(c.n, c.m, false, plain(c.n), gates, c.count, answer);
     Parsed::Record(size)
 }
 
-// The code of the first rule that forbids a text, or 0: a text has no line for a layout.
+// The code of the first rule that forbids a text, or 0: a text has no line for a mark or a layout.
 fn text_code(circuit: &[u8]) -> u8
     ensures { λ r. ⌜ r ≡ textCode (now (circuit .entry)) ⌝ }
 {
     let plain = plain(record::data_wires(circuit));
+    let laid = logic::rule(record::layout_of(circuit) == plain, 15, 0);
     logic::and_then(
         record::circuit_code(circuit),
-        logic::rule(record::layout_of(circuit) == plain, 15, 0),
+        logic::rule(!record::marked(circuit), 8, laid),
     )
 }
 
@@ -408,9 +409,9 @@ fn text_size(circuit: &[u8]) -> usize
     rendering::heading_size(n, m) + rendering::body_size(record::gate_list(circuit))
 }
 
-// Writes the text of a sound circuit at the start of a buffer that holds it.
+// Writes the text of a circuit that has one at the start of a buffer that holds it.
 fn put_real(circuit: &[u8], out: &mut [u8]) -> usize
-    requires { ⌜ circuitCode (now circuit) ≡ 0 ⌝ }
+    requires { ⌜ textCode (now circuit) ≡ 0 ⌝ }
     requires { ⌜ length (textOf (now circuit)) ≤ length (now out) ⌝ }
     ensures { λ r. ⌜ Wrote (now (out .entry)) 0 (textOf (now (circuit .entry))) (now (out .exit)) r ⌝ }
 {
@@ -420,7 +421,7 @@ fn put_real(circuit: &[u8], out: &mut [u8]) -> usize
     rendering::put_body(out, i, record::gate_list(circuit))
 }
 
-// Writes the `.real` text of a circuit record with plain layout to `out`.
+// Writes the `.real` text of an unmarked circuit record with plain layout to `out`.
 pub fn write_real(circuit: &[u8], out: &mut [u8]) -> Rendered
     ensures { λ r. ⌜ renderedReply r ≡ lengthOf (writeOf (now (circuit .entry)) (length (now (out .entry)))) ⌝ }
     ensures { λ r. ⌜ lengthIn r ≤ 193 ⌝ }

@@ -4,11 +4,20 @@ use mathlib.Core.List.{List}
 use Prim.Native.Nat.{ℕ, _+_, _*_, _/_, _%_}
 use lib.Dec.{leb, eqb}
 use lib.ListN.{length, getD, drop}
-use Rattle.logic.specs.Rules.{both, either, rule}
+use Rattle.logic.specs.Rules.{both, either, implies, pick, rule}
 use Rattle.logic.specs.Lists.{allOf}
 use Rattle.circuit.specs.declared.Weights.{Weights}
 use Rattle.circuit.specs.Measure.{weightOf}
 use Rattle.table.specs.Rows.{rowOk}
+
+-- "A job of 22 or 30 bytes has four prices in bytes 6 to 9, four durations in 10 to 13, and the table from 14." (02): which of the two
+-- records it is; all else follows from it
+unfoldable pub longer : List ℕ → Bool
+longer job = either (eqb (length job) 22) (eqb (length job) 30)
+
+-- "Three controls are then lawful." (02)
+abbrev pub mostControls : List ℕ → ℕ
+mostControls job = pick (longer job) 3 2
 
 -- "Byte 0: n in 3 bits, m in 2": also a circuit's
 unfoldable pub dataWires : List ℕ → ℕ
@@ -37,14 +46,16 @@ costLimit job = word job 2
 unfoldable pub depthLimit : List ℕ → ℕ
 depthLimit job = word job 4
 
-abbrev pub weightsAt : List ℕ → ℕ → Weights
-weightsAt r i = record { not = getD r i 0; cnot = getD r (i + 1) 0; toffoli = getD r (i + 2) 0 }
+-- three or four weights from byte i on; the fourth of three is 0, and no lawful gate asks for it
+abbrev pub weightsAt : Bool → List ℕ → ℕ → Weights
+weightsAt four r i =
+    record { not = getD r i 0; cnot = getD r (i + 1) 0; toffoli = getD r (i + 2) 0; cccnot = pick four (getD r (i + 3) 0) 0 }
 
 unfoldable pub prices : List ℕ → Weights
-prices job = weightsAt job 6
+prices job = weightsAt (longer job) job 6
 
 unfoldable pub durations : List ℕ → Weights
-durations job = weightsAt job 9
+durations job = weightsAt (longer job) job (pick (longer job) 10 9)
 
 abbrev pub priceOf : List ℕ → ℕ → ℕ
 priceOf job b = weightOf (prices job) b
@@ -54,15 +65,17 @@ durationOf job b = weightOf (durations job) b
 
 -- "Then one byte a row"
 abbrev pub rows : List ℕ → List ℕ
-rows job = drop 12 job
+rows job = drop (pick (longer job) 14 12) job
 
--- "Is it 20 or 28 bytes long? If not, 1."
+-- "Is it 20 or 28 bytes long? If not, 1." Widened: or a longer one
 unfoldable pub jobLengthOk : List ℕ → Bool
-jobLengthOk job = either (eqb (length job) 20) (eqb (length job) 28)
+jobLengthOk job = either (either (eqb (length job) 20) (eqb (length job) 28)) (longer job)
 
--- "Is n = 3 with 20, n = 4 with 28? If not, 2."
+-- "Is n = 3 with 20, n = 4 with 28? If not, 2." Widened: or 22, or 30
 unfoldable pub sizeOk : List ℕ → Bool
-sizeOk job = either (both (eqb (dataWires job) 3) (eqb (length job) 20)) (both (eqb (dataWires job) 4) (eqb (length job) 28))
+sizeOk job =
+    either (both (eqb (dataWires job) 3) (either (eqb (length job) 20) (eqb (length job) 22)))
+    (both (eqb (dataWires job) 4) (either (eqb (length job) 28) (eqb (length job) 30)))
 
 -- "Is m 0 or 1, and are byte 0's last two bits zero? If not, 3."
 unfoldable pub headOk : List ℕ → Bool
@@ -72,9 +85,13 @@ headOk job = both (leb (ancillas job) 1) (eqb (getD job 0 0 % 4) 0)
 unfoldable pub limitOk : List ℕ → Bool
 limitOk job = leb (gateLimit job) 12
 
--- "Are all durations at least 1? If not, 5."
+-- "Are all durations at least 1? If not, 5." All three, or all four
 unfoldable pub durationsOk : List ℕ → Bool
-durationsOk job = both (leb 1 (durations job .not)) (both (leb 1 (durations job .cnot)) (leb 1 (durations job .toffoli)))
+durationsOk job =
+    both (leb 1 (durations job .not))
+    (both (leb 1 (durations job .cnot))
+    (both (leb 1 (durations job .toffoli))
+    (implies (longer job) (leb 1 (durations job .cccnot)))))
 
 -- "Does every row keep the rules above? If not, 6."
 unfoldable pub rowsOk : List ℕ → Bool

@@ -3,13 +3,14 @@ use circuit::Weights;
 ghost use mathlib.Core.Path.{_≡_};
 ghost use mathlib.Core.List.{_∷_, _++_};
 ghost use Prim.Native.Nat.{_+_, _≤_, _<_};
-ghost use lib.ListN.{length, take, drop};
+ghost use lib.ListN.{length, getD, take, drop};
+ghost use Rattle.logic.specs.Rules.{pick};
 ghost use Rattle.logic.specs.Lists.{allOf};
 ghost use Rattle.gate.specs.Gates.{lawful};
 ghost use Rattle.table.specs.Layouts.{Width};
-ghost use Rattle.record.specs.Jobs.{dataWires, ancillas, wires, freeLayout, gateLimit, word, costLimit, depthLimit, weightsAt};
+ghost use Rattle.record.specs.Jobs.{longer, mostControls, dataWires, ancillas, wires, freeLayout, gateLimit, word, costLimit, depthLimit, weightsAt};
 ghost use Rattle.record.specs.Jobs.{prices, durations, rows, jobLengthOk, sizeOk, headOk, limitOk, durationsOk, rowsOk, jobCode};
-ghost use Rattle.record.specs.Circuits.{layoutOf, countOf, gates, circuitLengthOk, shapeOk, countOk, gatesOk, circuitCode, circuitBytes};
+ghost use Rattle.record.specs.Circuits.{marked, controlsOf, headByte, layoutOf, countOf, gates, circuitLengthOk, shapeOk, countOk, gatesOk, circuitCode, circuitBytes};
 ghost use Rattle.record.specs.Answers.{checkedAnswer, checkOf};
 ghost use Rattle.record.specs.Inner.{jobRest, circuitRest};
 
@@ -17,6 +18,20 @@ ghost use Rattle.record.specs.Inner.{jobRest, circuitRest};
 pub enum Checked {
     Refused(u8),
     Sound,
+}
+
+// Whether a job is one of the longer records, of 22 or 30 bytes.
+pub fn longer(job: &[u8]) -> bool
+    ensures { λ r. ⌜ r ≡ longer (now (job .entry)) ⌝ }
+{
+    logic::either(job.len() == 22, job.len() == 30)
+}
+
+// The greatest number of controls that a job allows a gate.
+pub fn most_controls(job: &[u8]) -> usize
+    ensures { λ r. ⌜ r ≡ mostControls (now (job .entry)) ⌝ }
+{
+    if longer(job) { 3 } else { 2 }
 }
 
 // The number of data wires of a record, n.
@@ -76,35 +91,55 @@ pub fn depth_limit(job: &[u8]) -> usize
     word(job, 4)
 }
 
-fn weights_at(bytes: &[u8], i: usize) -> Weights
+// The byte at `i`, or 0 where it is not asked for.
+fn fourth(four: bool, bytes: &[u8], i: usize) -> u8
+    ensures { λ r. ⌜ r ≡ pick four (getD (now (bytes .entry)) i 0) 0 ⌝ }
+{
+    if four { logic::at(bytes, i) } else { 0 }
+}
+
+fn weights_at(four: bool, bytes: &[u8], i: usize) -> Weights
     requires { ⌜ i < 256 ⌝ }
-    ensures { λ r. ⌜ r ≡ weightsAt (now (bytes .entry)) i ⌝ }
+    ensures { λ r. ⌜ r ≡ weightsAt four (now (bytes .entry)) i ⌝ }
 {
     Weights {
         not: logic::at(bytes, i),
         cnot: logic::at(bytes, i + 1),
         toffoli: logic::at(bytes, i + 2),
+        cccnot: fourth(four, bytes, i + 3),
     }
 }
 
 pub fn prices(job: &[u8]) -> Weights
     ensures { λ r. ⌜ r ≡ prices (now (job .entry)) ⌝ }
 {
-    weights_at(job, 6)
+    weights_at(longer(job), job, 6)
 }
 
 pub fn durations(job: &[u8]) -> Weights
     ensures { λ r. ⌜ r ≡ durations (now (job .entry)) ⌝ }
 {
-    weights_at(job, 9)
+    if longer(job) {
+        weights_at(true, job, 10)
+    } else {
+        weights_at(false, job, 9)
+    }
+}
+
+// The place of the first row byte.
+fn rows_from(job: &[u8]) -> usize
+    ensures { λ r. ⌜ r ≡ pick (longer (now (job .entry))) 14 12 ⌝ }
+{
+    if longer(job) { 14 } else { 12 }
 }
 
 // The row bytes of a job.
 pub fn table(job: &[u8]) -> &[u8]
     ensures { λ r. ⌜ now r ≡ rows (now (job .entry)) ⌝ }
 {
-    if 12 <= job.len() {
-        &job[12..]
+    let from = rows_from(job);
+    if from <= job.len() {
+        &job[from..]
     } else {
         &job[..0]
     }
@@ -120,17 +155,16 @@ pub fn gate_list(c: &[u8]) -> &[u8]
 fn job_length_ok(job: &[u8]) -> bool
     ensures { λ r. ⌜ r ≡ jobLengthOk (now (job .entry)) ⌝ }
 {
-    logic::either(job.len() == 20, job.len() == 28)
+    logic::either(logic::either(job.len() == 20, job.len() == 28), longer(job))
 }
 
 fn size_ok(job: &[u8]) -> bool
     ensures { λ r. ⌜ r ≡ sizeOk (now (job .entry)) ⌝ }
 {
     let n = data_wires(job);
-    logic::either(
-        logic::both(n == 3, job.len() == 20),
-        logic::both(n == 4, job.len() == 28),
-    )
+    let three = logic::either(job.len() == 20, job.len() == 22);
+    let four = logic::either(job.len() == 28, job.len() == 30);
+    logic::either(logic::both(n == 3, three), logic::both(n == 4, four))
 }
 
 fn head_ok(job: &[u8]) -> bool
@@ -149,7 +183,11 @@ fn durations_ok(job: &[u8]) -> bool
     ensures { λ r. ⌜ r ≡ durationsOk (now (job .entry)) ⌝ }
 {
     let d = durations(job);
-    logic::both(1 <= d.not, logic::both(1 <= d.cnot, 1 <= d.toffoli))
+    let fourth = logic::implies(longer(job), 1 <= d.cccnot);
+    logic::both(
+        1 <= d.not,
+        logic::both(1 <= d.cnot, logic::both(1 <= d.toffoli, fourth)),
+    )
 }
 
 fn rows_ok(job: &[u8]) -> bool
@@ -209,17 +247,31 @@ fn shape_ok(c: &[u8]) -> bool
     ensures { λ r. ⌜ r ≡ shapeOk (now (c .entry)) ⌝ }
 {
     let n = data_wires(c);
-    let rest = logic::both(ancillas(c) <= 1, logic::at(c, 0) % 8 == 0);
+    let rest = logic::both(ancillas(c) <= 1, logic::at(c, 0) / 2 % 4 == 0);
     logic::both(logic::either(n == 3, n == 4), rest)
 }
 
-fn all_lawful(w: usize, list: &[u8]) -> bool
+// Whether a circuit carries the mark of a longer job's answer.
+pub fn marked(c: &[u8]) -> bool
+    ensures { λ r. ⌜ r ≡ marked (now (c .entry)) ⌝ }
+{
+    logic::at(c, 0) % 2 == 1
+}
+
+// The greatest number of controls that a circuit's gates may have.
+fn controls_of(c: &[u8]) -> u32
+    ensures { λ r. ⌜ r ≡ controlsOf (now (c .entry)) ⌝ }
+{
+    if marked(c) { 3 } else { 2 }
+}
+
+fn all_lawful(k: u32, w: usize, list: &[u8]) -> bool
     requires { ⌜ w < 64 ⌝ }
-    ensures { λ r. ⌜ r ≡ allOf (lawful 2 w) (now (list .entry)) ⌝ }
+    ensures { λ r. ⌜ r ≡ allOf (lawful k w) (now (list .entry)) ⌝ }
 {
     let mut i = 0;
     while i < list.len() {
-        if !gate::lawful(2, w, list[i]) {
+        if !gate::lawful(k, w, list[i]) {
             return false;
         }
         i += 1;
@@ -230,7 +282,7 @@ fn all_lawful(w: usize, list: &[u8]) -> bool
 fn gates_ok(c: &[u8]) -> bool
     ensures { λ r. ⌜ r ≡ gatesOk (now (c .entry)) ⌝ }
 {
-    all_lawful(wires(c), gate_list(c))
+    all_lawful(controls_of(c), wires(c), gate_list(c))
 }
 
 pub fn layout_of(c: &[u8]) -> u8
@@ -310,10 +362,23 @@ fn whole_record(head: u8, layout: u8, count: u8, path: [u8; 12]) -> [u8; 15]
     ]
 }
 
-// Writes a record of n data wires and m ancillas from byte 0 and returns its length; later bytes stay.
+// Byte 0 of a circuit.
+fn head_byte(n: usize, m: usize, mark: bool) -> u8
+    requires { ⌜ (n < 8) × (m < 4) ⌝ }
+    ensures { λ r. ⌜ r ≡ headByte n m mark ⌝ }
+{
+    if mark {
+        (32 * n + 8 * m + 1) as u8
+    } else {
+        (32 * n + 8 * m) as u8
+    }
+}
+
+// Writes a record of n data wires and m ancillas, marked or not, from byte 0 and returns its length; later bytes stay.
 pub fn write_record(
     n: usize,
     m: usize,
+    mark: bool,
     layout: u8,
     path: [u8; 12],
     len: usize,
@@ -321,10 +386,9 @@ pub fn write_record(
 ) -> usize
     requires { ⌜ ((n < 8) × (m < 4)) × ((len ≤ 12) × (15 ≤ length (now answer))) ⌝ }
     ensures { λ r. ⌜ r ≡ 3 + len ⌝ }
-    ensures { λ _. ⌜ now (answer .exit) ≡ circuitBytes n m layout (take len path) ++ drop (3 + len) (now (answer .entry)) ⌝ }
+    ensures { λ _. ⌜ now (answer .exit) ≡ circuitBytes n m mark layout (take len path) ++ drop (3 + len) (now (answer .entry)) ⌝ }
 {
-    let head = (32 * n + 8 * m) as u8;
-    let bytes = whole_record(head, layout, len as u8, path);
+    let bytes = whole_record(head_byte(n, m, mark), layout, len as u8, path);
     let size = 3 + len;
     bytes::copy(&bytes[..size], answer)
 }

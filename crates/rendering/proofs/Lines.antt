@@ -1,21 +1,23 @@
 -- A gate's line by its kind, and gate lines by what is left of them.
 use mathlib.Core.Path.{_≡_, refl, sym, ap, ap₂, _∙_}
-use mathlib.Core.Bool.{true}
+use mathlib.Core.Bool.{Bool, true, false, false≢true}
 use mathlib.Core.Logic.{inl, inr}
 use mathlib.Core.List.{List, [], _∷_, _++_, map}
 use Prim.Native.Nat.{ℕ, zero, suc, _+_, _*_, _≤_, _<_}
 use native.Mathlib.Numerals.{add-one}
 use native.Mathlib.Omega.{arith}
 use borrow.Author.Tests.{ltb-true}
+use lib.Count.{ones}
 use lib.Dec.{ltb}
 use lib.ListN.{length, getD, drop, length-append, drop-of-length-le}
 use lib.Seq.{drop-cons, length-sets}
 use Rattle.logic.specs.Rules.{both}
 use Rattle.logic.proofs.Chain.{both-left, both-right}
 use Rattle.gate.specs.declared.Gate.{Gate}
-use Rattle.gate.specs.declared.Kind.the-variants.{Not, Cnot, Toffoli}
-use Rattle.gate.specs.Gates.{lawful, targetOf, gateOf}
-use Rattle.gate.proofs.Widen.{parts}
+use Rattle.gate.specs.declared.Kind.{Kind}
+use Rattle.gate.specs.declared.Kind.the-variants.{Not, Cnot, Toffoli, Cccnot}
+use Rattle.gate.specs.Gates.{lawful, targetOf, maskOf, kindFor, gateOf}
+use Rattle.gate.proofs.Widen.{parts, widen}
 use Rattle.gate.proofs.Published.{wires-inside}
 use Rattle.table.specs.Layouts.{Width}
 use Rattle.text.specs.Writing.{over, Wrote}
@@ -23,6 +25,18 @@ use Rattle.text.proofs.Pieces.{over-append}
 use Rattle.revlib.specs.Grammar.{bytes, spaced, numvarsLine, variablesLine, constantsLine, constantsWord, heading, gateLine, body}
 use Rattle.revlib.specs.Writing.{lineFor, lettersFor, constantsFor}
 use Rattle.rendering.specs.Parts.{headingFor}
+
+abbrev threeControls : Kind → Bool
+threeControls Not = false
+threeControls (Cnot a) = false
+threeControls (Toffoli a d) = false
+threeControls (Cccnot a d f) = true
+
+few-controls : (n m : ℕ) → n ≤ 2 → threeControls (kindFor n m) ≡ false
+few-controls zero m h = refl
+few-controls (suc zero) m h = refl
+few-controls (suc (suc zero)) m h = refl
+few-controls (suc (suc (suc n))) m h = absurd (omega arith)
 
 module _ (b : ℕ) (g : Gate) (is : g ≡ gateOf b) where
   pub line-not : g .kind ≡ Not → 116 ∷ 49 ∷ 32 ∷ (97 + g .target) ∷ 10 ∷ [] ≡ gateLine (lineFor b)
@@ -38,6 +52,10 @@ module _ (b : ℕ) (g : Gate) (is : g ≡ gateOf b) where
   unfolding gateLine lineFor spaced
   line-toffoli a d e = rw (← is, e)
 
+  pub line-cccnot : (a d f : ℕ) → g .kind ≡ Cccnot a d f → 11 ≡ length (gateLine (lineFor b))
+  unfolding gateLine lineFor spaced
+  line-cccnot a d f e = rw (← is, e)
+
   -- the wires of a lawful gate
   module _ (h : lawful 2 5 b ≡ true) where
     pub target-lt : g .target < 5
@@ -45,12 +63,18 @@ module _ (b : ℕ) (g : Gate) (is : g ≡ gateOf b) where
     target-lt = rw is (parts 2 5 b h .target)
 
     pub cnot-lt : (a : ℕ) → g .kind ≡ Cnot a → a < 5
-    cnot-lt a e = ltb-true a 5 (rw (← is, e) at (wires-inside b h))
+    cnot-lt a e = ltb-true a 5 (rw (← is, e) at (wires-inside b (widen 2 5 3 5 b (omega arith) (omega arith) h)))
 
     pub toffoli-lt : (a d : ℕ) → g .kind ≡ Toffoli a d → (a < 5) × (d < 5)
     toffoli-lt a d e =
-        let i = rw (← is, e) at (wires-inside b h) in
+        let i = rw (← is, e) at (wires-inside b (widen 2 5 3 5 b (omega arith) (omega arith) h)) in
         (ltb-true a 5 (both-left (ltb a 5) (ltb d 5) i), ltb-true d 5 (both-right (ltb a 5) (ltb d 5) i))
+
+    -- it has no three controls
+    pub no-cccnot : (a d f : ℕ) → g .kind ≡ Cccnot a d f → ⊥
+    unfolding gateOf
+    no-cccnot a d f e =
+        false≢true (sym (few-controls (ones (maskOf b)) (maskOf b) (parts 2 5 b h .few)) ∙ ap threeControls (rw is at e))
 
 -- the lines from place k on
 module _ (gates : List ℕ) (k : ℕ) where

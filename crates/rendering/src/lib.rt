@@ -23,7 +23,7 @@ fn letter(w: usize) -> u8
 // The length of a gate's line.
 fn line_size(b: u8) -> usize
     ensures { λ r. ⌜ r ≡ length (gateLine (lineFor b)) ⌝ }
-    ensures { λ r. ⌜ r ≤ 9 ⌝ }
+    ensures { λ r. ⌜ r ≤ 11 ⌝ }
 {
     let g = gate::decode(b);
     let k = g.kind;
@@ -31,6 +31,7 @@ fn line_size(b: u8) -> usize
         Kind::Not => 5,
         Kind::Cnot(_) => 7,
         Kind::Toffoli(_, _) => 9,
+        Kind::Cccnot(_, _, _) => 11,
     }
 }
 
@@ -38,7 +39,7 @@ fn line_size(b: u8) -> usize
 pub fn body_size(gates: &[u8]) -> usize
     requires { ⌜ length (now gates) ≤ 12 ⌝ }
     ensures { λ r. ⌜ r ≡ length (body (map lineFor (now (gates .entry)))) ⌝ }
-    ensures { λ r. ⌜ r ≤ 113 ⌝ }
+    ensures { λ r. ⌜ r ≤ 137 ⌝ }
 {
     let mut size = 5;
     let mut i = 0;
@@ -71,6 +72,8 @@ fn put_line(out: &mut [u8], i: usize, b: u8) -> usize
             let word = [b't', b'3', b' ', letter(a), b' ', letter(d), b' ', t, b'\n'];
             text::put_text(out, i, &word)
         }
+        // Two controls are the most that a text has.
+        Kind::Cccnot(_, _, _) => i,
     }
 }
 

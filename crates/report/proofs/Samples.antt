@@ -16,6 +16,10 @@ pub refused-sample : refusedText 16 ≡ bytes "refused 16\nthe circuit does not 
 unfolding refusedText refusedLine decimal place said meaning circuitMeaning verifyMeaning
 refused-sample = refl
 
+pub marked-sample : refusedText 28 ≡ bytes "refused 28\nthe circuit is marked for three controls and the job is not\n"
+unfolding refusedText refusedLine decimal place said meaning circuitMeaning verifyMeaning
+marked-sample = refl
+
 -- 11 is reserved and never comes up
 pub unused-sample : refusedText 11 ≡ bytes "refused 11\nno rule has this number\n"
 unfolding refusedText refusedLine decimal place said meaning circuitMeaning verifyMeaning otherMeaning

@@ -12,7 +12,7 @@ pub data Meaning : Type 0 where
 
 abbrev pub jobMeanings : List Meaning
 jobMeanings =
-    (1 means "the job is not 20 or 28 bytes long")
+    (1 means "the job is not 20, 22, 28 or 30 bytes long")
     ∷ (2 means "the job's length does not fit its data wires")
     ∷ (3 means "the job's ancillas or spare bits are not lawful")
     ∷ (4 means "the gate limit is above 12")
@@ -32,6 +32,7 @@ circuitMeanings =
 abbrev pub verifyMeanings : List Meaning
 verifyMeanings =
     (12 means "the circuit's wires are not those of the job")
+    ∷ (28 means "the circuit is marked for three controls and the job is not")
     ∷ (15 means "the job allows the plain layout only")
     ∷ (16 means "the circuit does not realize the table")
     ∷ (24 means "the ancilla does not end at 0 in every row")

@@ -31,6 +31,11 @@ fn put_verify_meaning(out: &mut [u8], i: usize, code: u8) -> usize
 {
     match code {
         12 => put_text(out, i, b"the circuit's wires are not those of the job"),
+        28 => put_text(
+            out,
+            i,
+            b"the circuit is marked for three controls and the job is not",
+        ),
         15 => put_text(out, i, b"the job allows the plain layout only"),
         16 => put_text(out, i, b"the circuit does not realize the table"),
         24 => put_text(out, i, b"the ancilla does not end at 0 in every row"),
@@ -61,7 +66,7 @@ fn put_meaning(out: &mut [u8], i: usize, code: u8) -> usize
     ensures { λ r. ⌜ Wrote (now (out .entry)) i (meaning code) (now (out .exit)) r ⌝ }
 {
     match code {
-        1 => put_text(out, i, b"the job is not 20 or 28 bytes long"),
+        1 => put_text(out, i, b"the job is not 20, 22, 28 or 30 bytes long"),
         2 => put_text(out, i, b"the job's length does not fit its data wires"),
         3 => put_text(out, i, b"the job's ancillas or spare bits are not lawful"),
         4 => put_text(out, i, b"the gate limit is above 12"),

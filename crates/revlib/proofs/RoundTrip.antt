@@ -1,12 +1,12 @@
 -- The text of a circuit says the circuit.
 use mathlib.Core.Path.{_≡_, refl, sym, ap, ap₂, _∙_}
-use mathlib.Core.Bool.{Bool, true, false}
+use mathlib.Core.Bool.{Bool, true, false, not}
 use mathlib.Core.Logic.{_⊎_, inl, inr, ⊎-elim}
 use mathlib.Core.List.{List, [], _∷_, _++_, map}
 use Prim.Native.Nat.{ℕ, zero, suc, _+_, _-_, _*_, _≤_, _<_}
 use native.Mathlib.Decide.{ℕ-discrete}
 use native.Mathlib.Omega.{arith}
-use borrow.Author.Tests.{eqb-true, eq-eqb, ne-eqb}
+use borrow.Author.Tests.{eqb-true, eq-eqb, ne-eqb, not-true}
 use lib.Count.{ones, onesIn, trailingZeros, leadingZeros}
 use lib.Dec.{eqb, leb, lit<}
 use lib.ListN.{length, length-append, length-map}
@@ -19,7 +19,7 @@ use Rattle.gate.specs.Gates.{lawful, gateOf}
 use Rattle.gate.proofs.Widen.{lawful-lt}
 use Rattle.table.specs.Layouts.{Width, plain}
 use Rattle.record.specs.Jobs.{dataWires, ancillas, wires}
-use Rattle.record.specs.Circuits.{layoutOf, gates, circuitCode, circuitBytes}
+use Rattle.record.specs.Circuits.{marked, layoutOf, gates, circuitCode, circuitBytes}
 use Rattle.record.proofs.Kept.{sound-circuit, circuit-wires-within}
 use Rattle.record.proofs.Written.{rebuilt}
 use Rattle.revlib.specs.Grammar.{bytes, Constants, Description, ancillaCount, spaced, numvarsLine, variablesLine, constantsLine, constantsWord, heading, gateLine, body, render, isIn, different, lowerCase, dataCount, headingOk, declared, lineOk, wellFormed, wireOf, gateByte, recordOf}
@@ -80,8 +80,20 @@ heading-facts n zero (inr e) h = rw e (refl, (refl, (refl, omega arith)))
 heading-facts n (suc zero) (inr e) h = rw e (refl, (refl, (refl, omega arith)))
 heading-facts n (suc (suc m)) w h = absurd (omega arith)
 
--- A circuit that breaks no rule, with plain layout.
-module _ (c : List ℕ) (sound : circuitCode c ≡ 0) where
+-- A text breaks no rule of circuits, and the circuit is unmarked and has plain layout.
+pub text-rules : (c : List ℕ) → textCode c ≡ 0
+    → (circuitCode c ≡ 0) × ((marked c ≡ false) × (layoutOf c ≡ plain (dataWires c)))
+unfolding textCode
+text-rules c h =
+    let laid = eqb (layoutOf c) (plain (dataWires c)) in
+    let p = and-then-zero (circuitCode c) (rule (not (marked c)) 8 (rule laid 15 0)) h in
+    let k = rule-kept (not (marked c)) 8 (rule laid 15 0) (lit< tt) (p .1) in (
+      p .0,
+      (not-true (marked c) (k .0), eqb-true (layoutOf c) (plain (dataWires c)) (rule-kept laid 15 0 (lit< tt) (k .1) .0)),
+    )
+
+-- An unmarked circuit that breaks no rule, with plain layout.
+module _ (c : List ℕ) (sound : circuitCode c ≡ 0) (unmarked : marked c ≡ false) where
   facts : (headingOk (lettersFor (wires c)) (constantsFor (ancillas c)) ≡ true)
       × ((dataCount (lettersFor (wires c)) (constantsFor (ancillas c)) ≡ dataWires c)
       × ((ancillaCount (constantsFor (ancillas c)) ≡ ancillas c) × (length (heading (lettersFor (wires c)) (constantsFor (ancillas c))) ≤ 80)))
@@ -91,8 +103,8 @@ module _ (c : List ℕ) (sound : circuitCode c ≡ 0) where
   few-wires : wires c ≤ 5
   few-wires = circuit-wires-within c sound .1
 
-  lawful-gates : allOf (lawful 2 (wires c)) (gates c) ≡ true
-  lawful-gates = sound-circuit c sound .kept
+  pub lawful-gates : allOf (lawful 2 (wires c)) (gates c) ≡ true
+  lawful-gates = rw unmarked at (sound-circuit c sound .kept)
 
   well : wellFormed (describe c) ≡ true
   unfolding wellFormed describe
@@ -113,7 +125,7 @@ module _ (c : List ℕ) (sound : circuitCode c ≡ 0) where
   same-record : layoutOf c ≡ plain (dataWires c) → recordOf (describe c) ≡ c
   unfolding recordOf describe
   same-record e =
-      rw (facts .1 .0, facts .1 .1 .0, gates-back (wires c) few-wires (gates c) lawful-gates, ← e) (rebuilt c sound)
+      rw (facts .1 .0, facts .1 .1 .0, gates-back (wires c) few-wires (gates c) lawful-gates, ← e) (rw unmarked at (rebuilt c sound))
 
   -- reading what was written gives the record back
   pub round-trip : layoutOf c ≡ plain (dataWires c) → (room : ℕ) → 15 ≤ room → readOf (textOf c) room ≡ answered c
@@ -125,16 +137,15 @@ module _ (c : List ℕ) (sound : circuitCode c ≡ 0) where
 
 -- The same of the call: whatever text it writes is read as the circuit.
 pub written-read : (c : List ℕ) (room : ℕ) (text : List ℕ) → writeOf c room ≡ Reply.answered text → (wide : ℕ) → 15 ≤ wide → readOf text wide ≡ answered c
-unfolding writeOf textCode
+unfolding writeOf
 written-read c room text h wide k = by-code (ℕ-discrete (textCode c) 0)
   where
     by-size : textCode c ≡ 0 → (t : Bool) → leb (length (textOf c)) room ≡ t → pick t (Reply.answered (textOf c)) (Reply.short 13 (length (textOf c))) ≡ Reply.answered text
         → readOf text wide ≡ answered c
     by-size z true e w =
         let same : textOf c ≡ text = cc in
-        let p = and-then-zero (circuitCode c) (rule (eqb (layoutOf c) (plain (dataWires c))) 15 0) z in
-        let laid = rule-kept (eqb (layoutOf c) (plain (dataWires c))) 15 0 (lit< tt) (p .1) .0 in
-        ap (λ (l : List ℕ). readOf l wide) (sym same) ∙ round-trip c (p .0) (eqb-true (layoutOf c) (plain (dataWires c)) laid) wide k
+        let p = text-rules c z in
+        ap (λ (l : List ℕ). readOf l wide) (sym same) ∙ round-trip c (p .0) (p .1 .0) (p .1 .1) wide k
     by-size z false e w = let n : _≡_ {A = ℕ} 0 1 = cc in absurd (omega arith)
 
     by-code : Dec (textCode c ≡ 0) → readOf text wide ≡ answered c

@@ -205,5 +205,5 @@ record-sound d h few =
     let n = name-count ls c (p .0) in
     let gs = map (gateByte ls) (d .lines) in
     let kept : allOf (lawful 2 (dataCount ls c + ancillaCount c)) gs ≡ true = rw (wires-joined ls c w) (lines-lawful ls (n .1) (d .lines) (p .1)) in
-    circuit-kept (dataCount ls c) (ancillaCount c) (plain (dataCount ls c)) gs (ancilla-few c) w (plain-ok (dataCount ls c) w)
+    circuit-kept (dataCount ls c) (ancillaCount c) false (plain (dataCount ls c)) gs (ancilla-few c) w (plain-ok (dataCount ls c) w)
     (rw (length-map (d .lines) (gateByte ls)) few) kept

@@ -111,8 +111,8 @@ gateByte ls [] = 0
 gateByte ls (t ∷ []) = 32 * wireOf ls t
 gateByte ls (c ∷ d ∷ l) = 2 ^ wireOf ls c + gateByte ls (d ∷ l)
 
--- "a circuit record with plain placing"; "its gate lines are the record's gates in order"
+-- "a circuit record with plain placing", unmarked, for no line has three controls; "its gate lines are the record's gates in order"
 unfoldable pub recordOf : Description → List ℕ
 recordOf d =
     let n = dataCount (d .letters) (d .constants) in
-    circuitBytes n (ancillaCount (d .constants)) (plain n) (map (gateByte (d .letters)) (d .lines))
+    circuitBytes n (ancillaCount (d .constants)) false (plain n) (map (gateByte (d .letters)) (d .lines))

@@ -1,4 +1,5 @@
 -- The `.real` text of a circuit record with plain layout, our own addition: its description, and what the call answers.
+use mathlib.Core.Bool.{not}
 use mathlib.Core.List.{List, [], _∷_, _++_, map}
 use Prim.Native.Nat.{ℕ, _+_}
 use lib.Dec.{eqb, leb}
@@ -6,11 +7,11 @@ use lib.ListN.{length, drop}
 use Rattle.logic.specs.Rules.{pick, rule, andThen}
 use Rattle.logic.specs.Lists.{numbersFrom}
 use Rattle.gate.specs.declared.Kind.{Kind}
-use Rattle.gate.specs.declared.Kind.the-variants.{Not, Cnot, Toffoli}
+use Rattle.gate.specs.declared.Kind.the-variants.{Not, Cnot, Toffoli, Cccnot}
 use Rattle.gate.specs.Gates.{gateOf}
 use Rattle.table.specs.Layouts.{plain}
 use Rattle.record.specs.Jobs.{dataWires, ancillas, wires}
-use Rattle.record.specs.Circuits.{layoutOf, gates, circuitCode}
+use Rattle.record.specs.Circuits.{marked, layoutOf, gates, circuitCode}
 use Rattle.revlib.specs.Grammar.{Constants, unsaid, oneAncilla, Description, render}
 
 -- a, b, c, .. in wire order
@@ -21,6 +22,7 @@ abbrev pub controlWires : Kind → List ℕ
 controlWires Not = []
 controlWires (Cnot a) = a ∷ []
 controlWires (Toffoli a b) = a ∷ b ∷ []
+controlWires (Cccnot a b c) = a ∷ b ∷ c ∷ []
 
 -- the letters of a gate's controls, and its target's last
 unfoldable pub lineFor : ℕ → List ℕ
@@ -39,9 +41,9 @@ describe c = record { letters = lettersFor (wires c); constants = constantsFor (
 unfoldable pub textOf : List ℕ → List ℕ
 textOf c = render (describe c)
 
--- the circuit's checks, then 15 where the layout is not the plain one: the text has no line for it
+-- the circuit's checks, then 8 where it is marked and 15 where the layout is not the plain one: the text has no line for either
 unfoldable pub textCode : List ℕ → ℕ
-textCode c = andThen (circuitCode c) (rule (eqb (layoutOf c) (plain (dataWires c))) 15 0)
+textCode c = andThen (circuitCode c) (rule (not (marked c)) 8 (rule (eqb (layoutOf c) (plain (dataWires c))) 15 0))
 
 -- a refusal's number; 13 with the length that is needed; or a text
 pub data Reply (A : Type 0) : Type 0 where

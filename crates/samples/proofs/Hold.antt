@@ -12,10 +12,10 @@ use Rattle.gate.specs.Gates.{lawful, step, gateOf}
 use Rattle.circuit.specs.Measure.{weightOf, hold, greatest}
 use Rattle.table.specs.Layouts.{layoutOk, allowed, layoutsFor}
 use Rattle.table.specs.Rows.{rowOk, bitAgrees, rowAgrees, agreesFrom, clean, realizes}
-use Rattle.record.specs.Jobs.{dataWires, ancillas, wires, freeLayout, gateLimit, costLimit, depthLimit, prices, durations}
+use Rattle.record.specs.Jobs.{longer, dataWires, ancillas, wires, freeLayout, gateLimit, costLimit, depthLimit, prices, durations}
 use Rattle.record.specs.Jobs.{jobLengthOk, sizeOk, headOk, limitOk, durationsOk, rowsOk, jobCode}
-use Rattle.record.specs.Circuits.{layoutOf, countOf, circuitLengthOk, shapeOk, circuitCode, circuitBytes}
-use Rattle.verify.specs.Calls.{runCode, runOf, measuresOf, sameWires, measureCode, measureOf, limitsCode, verifyRest, verifyCode, verifyOf}
+use Rattle.record.specs.Circuits.{marked, layoutOf, countOf, circuitLengthOk, shapeOk, circuitCode, circuitBytes}
+use Rattle.verify.specs.Calls.{runCode, runOf, measuresOf, sameWires, markFits, measureCode, measureOf, limitsCode, verifyRest, verifyCode, verifyOf}
 use Rattle.parity.specs.Parity.{full, distinct, permutes, smaller, inversions, tableParity, parityOf}
 use Rattle.choice.specs.Choices.{lexLess, before, keep, attempt, improve, under}
 use Rattle.problem.specs.Problems.{choiceOf, here, within, firstGood}
@@ -28,7 +28,7 @@ unfolding failing samples holds lawful step gateOf weightOf hold greatest total 
     gateLimit costLimit depthLimit prices durations layoutOf countOf circuitLengthOk shapeOk circuitCode layoutOk allowed bitAgrees
     rowAgrees agreesFrom runCode runOf measuresOf sameWires measureCode measureOf limitsCode verifyRest verifyCode verifyOf ones onesIn
     trailingZeros leadingZeros lexLess before keep attempt improve under choiceOf here within firstGood problemOf recordOf circuitBytes searchCode searchOf
-    layoutsFor clean realizes
+    layoutsFor clean realizes longer marked markFits
 all-hold = refl
 
 -- the first row holds, and the others

@@ -8,7 +8,7 @@ use lib.Dec.{eqb}
 use Rattle.logic.specs.Rules.{both, either, pick}
 use Rattle.logic.specs.Answers.{Answer, refused, answered}
 use Rattle.gate.specs.declared.Kind.{Kind}
-use Rattle.gate.specs.declared.Kind.the-variants.{Not, Cnot, Toffoli}
+use Rattle.gate.specs.declared.Kind.the-variants.{Not, Cnot, Toffoli, Cccnot}
 use Rattle.gate.specs.Gates.{maskOf, lawful, step, gateOf}
 use Rattle.circuit.specs.declared.Weights.{Weights}
 use Rattle.circuit.specs.Measure.{weightOf, cost, depth}
@@ -24,8 +24,8 @@ use Rattle.search.specs.Outcomes.{Found, searchOf}
 pub data Sample : Type 0 where
   toffoli : (byte target low high : ℕ) → Sample
   turns : (byte value result : ℕ) → Sample
-  isLawful : (wires byte : ℕ) → Sample
-  isUnlawful : (wires byte : ℕ) → Sample
+  isLawful : (most wires byte : ℕ) → Sample
+  isUnlawful : (most wires byte : ℕ) → Sample
   controls : (byte count : ℕ) → Sample
   costs : (gates : List ℕ) (sum : ℕ) → Sample
   deep : (gates : List ℕ) (time : ℕ) → Sample
@@ -48,13 +48,14 @@ abbrev toffoliOn : Kind → ℕ → ℕ → Bool
 toffoliOn Not a b = false
 toffoliOn (Cnot c) a b = false
 toffoliOn (Toffoli c d) a b = both (eqb c a) (eqb d b)
+toffoliOn (Cccnot c d e) a b = false
 
 -- "Prices 1, 1, 5 and durations 1, 1, 7"
 abbrev pub samplePrices : Weights
-samplePrices = record { not = 1; cnot = 1; toffoli = 5 }
+samplePrices = record { not = 1; cnot = 1; toffoli = 5; cccnot = 0 }
 
 abbrev pub sampleDurations : Weights
-sampleDurations = record { not = 1; cnot = 1; toffoli = 7 }
+sampleDurations = record { not = 1; cnot = 1; toffoli = 7; cccnot = 0 }
 
 -- a job of four data wires that wants every bit of these values
 abbrev full4 : List ℕ → List ℕ
@@ -63,6 +64,14 @@ full4 values = 0x80 ∷ 12 ∷ 255 ∷ 255 ∷ 255 ∷ 255 ∷ 1 ∷ 1 ∷ 5 ∷
 -- a job of 20 bytes: its byte 0, its three limits, the duration of a NOT, and its rows
 abbrev short : (head gates cost depth duration : ℕ) → List ℕ → List ℕ
 short head gates cost depth duration rows = head ∷ gates ∷ 0 ∷ cost ∷ 0 ∷ depth ∷ 1 ∷ 1 ∷ 5 ∷ duration ∷ 1 ∷ 7 ∷ rows
+
+-- a longer job: its byte 0, its three limits, the duration of a three-control gate, and its rows
+abbrev long : (head gates cost depth duration : ℕ) → List ℕ → List ℕ
+long head gates cost depth duration rows = head ∷ gates ∷ 0 ∷ cost ∷ 0 ∷ depth ∷ 1 ∷ 1 ∷ 5 ∷ 9 ∷ 1 ∷ 1 ∷ 7 ∷ duration ∷ rows
+
+-- rows 7 and 15 of four data wires exchanged
+abbrev exchanged : List ℕ
+exchanged = map (λ v. 0xF0 + v) (0 ∷ 1 ∷ 2 ∷ 3 ∷ 4 ∷ 5 ∷ 6 ∷ 15 ∷ 8 ∷ 9 ∷ 10 ∷ 11 ∷ 12 ∷ 13 ∷ 14 ∷ 7 ∷ [])
 
 -- eight rows that begin with these two and want nothing else
 abbrev two : ℕ → ℕ → List ℕ
@@ -119,8 +128,8 @@ givesParity p (answered q) = eqb (parityNumber q) (parityNumber p)
 unfoldable pub holds : Sample → Bool
 holds (toffoli b t low high) = both (eqb (gateOf b .target) t) (toffoliOn (gateOf b .kind) low high)
 holds (turns b v r) = eqb (step b v) r
-holds (isLawful w b) = lawful 2 w b
-holds (isUnlawful w b) = not (lawful 2 w b)
+holds (isLawful k w b) = lawful k w b
+holds (isUnlawful k w b) = not (lawful k w b)
 holds (controls b n) = eqb (ones (maskOf b)) n
 holds (costs gs c) = eqb (cost (weightOf samplePrices) gs) c
 holds (deep gs d) = eqb (depth (weightOf sampleDurations) gs) d
@@ -146,14 +155,21 @@ samples =
     ∷ turns 67 7 3
     ∷ turns 67 5 5
     ∷ turns 33 1 3  -- 21 turns 1 into 3
-    ∷ isUnlawful 3 34  -- 22: the target is among the controls
-    ∷ isUnlawful 4 34
-    ∷ isUnlawful 5 34
-    ∷ controls 103 3  -- 67 has three controls
-    ∷ isUnlawful 4 103
-    ∷ isUnlawful 5 103
-    ∷ isLawful 4 96  -- 60 is lawful for four wires, not for three
-    ∷ isUnlawful 3 96
+    ∷ isUnlawful 2 3 34  -- 22: the target is among the controls
+    ∷ isUnlawful 2 4 34
+    ∷ isUnlawful 2 5 34
+    ∷ isUnlawful 3 5 34
+    ∷ controls 103 3  -- 67 has three controls: unlawful under a shorter job, lawful under a longer one, of four wires or five
+    ∷ isUnlawful 2 4 103
+    ∷ isUnlawful 2 5 103
+    ∷ isLawful 3 4 103
+    ∷ isLawful 3 5 103
+    ∷ isUnlawful 3 3 103
+    ∷ turns 103 7 15
+    ∷ turns 103 15 7
+    ∷ turns 103 11 11
+    ∷ isLawful 2 4 96  -- 60 is lawful for four wires, not for three
+    ∷ isUnlawful 2 3 96
     ∷ deep (0 ∷ 32 ∷ []) 1  -- 00 20
     ∷ deep (65 ∷ 33 ∷ []) 2  -- 41 21
     ∷ costs (33 ∷ 67 ∷ []) 6  -- 21 43
@@ -170,12 +186,19 @@ samples =
     ∷ jobRefused (anything 13 0 0) 4
     ∷ jobRefused (short 0x60 0 0 0 0 (two 0 0)) 5  -- a NOT that takes no time
     ∷ jobRefused (short 0x60 0 0 0 1 (two 0 1)) 6  -- a value bit outside the mask
+    ∷ jobSound (long 0x60 0 0 0 11 (two 0 0))
+    ∷ jobRefused (long 0x80 0 0 0 11 (two 0 0)) 2  -- n = 4 with 22 bytes
+    ∷ jobRefused (long 0x60 0 0 0 0 (two 0 0)) 5  -- a three-control gate that takes no time
+    ∷ jobRefused (long 0x60 0 0 0 11 (two 0 1)) 6
     ∷ circuitSound empty
     ∷ circuitRefused [] 7
-    ∷ circuitRefused (0x61 ∷ 0x18 ∷ 0 ∷ []) 8  -- the last bit of byte 0
+    ∷ circuitSound (0x61 ∷ 0x18 ∷ 0 ∷ [])  -- marked
+    ∷ circuitRefused (0x62 ∷ 0x18 ∷ 0 ∷ []) 8  -- the bit beside the mark
     ∷ circuitRefused (0x60 ∷ 0x08 ∷ 0 ∷ []) 9  -- outputs 0 and 1 on wire 0
     ∷ circuitRefused (0x60 ∷ 0x18 ∷ 1 ∷ []) 10
     ∷ circuitRefused (0x60 ∷ 0x18 ∷ 1 ∷ 34 ∷ []) 21  -- 22 again
+    ∷ circuitRefused (0x80 ∷ 0x1B ∷ 1 ∷ 103 ∷ []) 21  -- 67, not marked
+    ∷ circuitSound (0x81 ∷ 0x1B ∷ 1 ∷ 103 ∷ [])
     ∷ runs (0x60 ∷ 0x18 ∷ 2 ∷ 0 ∷ 33 ∷ []) 0 3 1  -- 00 21, there and back
     ∷ runRefused empty 8 20
     ∷ measures (anything 0 0 0) oneNot 1 1 1 (1 ∷ 0 ∷ 0 ∷ 0 ∷ 0 ∷ [])
@@ -183,6 +206,10 @@ samples =
     ∷ measures (anything 0 0 0) (0x60 ∷ 0x18 ∷ 2 ∷ 33 ∷ 67 ∷ []) 2 6 8 (8 ∷ 8 ∷ 8 ∷ 0 ∷ 0 ∷ [])  -- 21 43
     ∷ measureRefused (anything 0 0 0) (0x80 ∷ 0x1B ∷ 0 ∷ []) 12  -- four data wires for three
     ∷ verifyRefused (anything 0 0 0) (0x68 ∷ 0x18 ∷ 0 ∷ []) 12  -- an ancilla for none
+    ∷ measureRefused (anything 0 0 0) (0x61 ∷ 0x18 ∷ 0 ∷ []) 28  -- marked, under a shorter job
+    ∷ verifyRefused (anything 0 0 0) (0x61 ∷ 0x48 ∷ 0 ∷ []) 28  -- and before 15
+    ∷ passes (long 0x60 0 0 0 11 (two 0 0)) empty 0 0 0 (0 ∷ 0 ∷ 0 ∷ 0 ∷ 0 ∷ [])  -- not marked, under a longer one
+    ∷ passes (long 0x80 1 9 11 11 exchanged) (0x81 ∷ 0x1B ∷ 1 ∷ 103 ∷ []) 1 9 11 (11 ∷ 11 ∷ 11 ∷ 11 ∷ 0 ∷ [])
     ∷ verifyRefused (anything 0 0 0) (0x60 ∷ 0x48 ∷ 0 ∷ []) 15  -- a layout that is not the plain one
     ∷ verifyRefused (short 0x60 0 0 0 1 (two 0x11 0)) empty 16  -- row 0 wants bit 0 to be 1
     ∷ verifyRefused (short 0x68 0 0 0 1 (two 0 0)) (0x68 ∷ 0x18 ∷ 1 ∷ 96 ∷ []) 24  -- 60 leaves the ancilla at 1, though no bit is wanted
@@ -195,6 +222,7 @@ samples =
     ∷ searchRefused (anything 0 0 0) 14 13  -- an answer buffer of 14 bytes
     ∷ searchRefused (short 0x60 0 0 0 1 (two 0x11 0)) 15 14  -- row 0 wants bit 0 to be 1, and no gate is allowed
     ∷ finds (short 0x60 0 0 0 1 (two 0x10 0x11)) empty
+    ∷ finds (long 0x60 0 0 0 11 (two 0x10 0x11)) (0x61 ∷ 0x18 ∷ 0 ∷ [])  -- marked, with no gate at all
     ∷ []
 
 -- the number of the first row that does not hold, counted from i, or 0

@@ -1,16 +1,17 @@
 -- What the public call owes: each way out of it is what its definition answers, and the record stands at the start of the buffer.
-use mathlib.Core.Path.{_≡_, ap, _∙_}
-use mathlib.Core.Bool.{true, false}
+use mathlib.Core.Path.{_≡_, refl, ap, _∙_}
+use mathlib.Core.Bool.{Bool, true, false}
 use mathlib.Core.List.{List, _++_}
 use mathlib.Core.Option.{none}
 use Prim.Native.Nat.{ℕ}
+use native.Mathlib.Omega.{arith}
 use borrow.Author.Tests.{eqb-true, ne-eqb}
 use lib.Dec.{eqb}
 use lib.ListN.{length, take, drop}
-use Rattle.logic.specs.Rules.{both}
+use Rattle.logic.specs.Rules.{both, pick}
 use Rattle.logic.specs.Answers.{Answer, refused, answered}
 use Rattle.logic.proofs.Chain.{both-parts}
-use Rattle.record.specs.Jobs.{dataWires, ancillas, priceOf, durationOf, jobCode}
+use Rattle.record.specs.Jobs.{longer, mostControls, dataWires, ancillas, priceOf, durationOf, jobCode}
 use Rattle.record.specs.Circuits.{circuitBytes}
 use Rattle.verify.specs.Calls.{measuresOf}
 use Rattle.parity.specs.Parity.{isOdd, tableParity}
@@ -36,23 +37,31 @@ module _ (job : List ℕ) (room : ℕ) where
     unfolding view
     missing h = past ∙ rw h
 
-    pub reached : (n m : ℕ) → n ≡ dataWires job → m ≡ ancillas job → b .found ≡ true
+    pub reached : (n m : ℕ) (mark : Bool) → n ≡ dataWires job → m ≡ ancillas job → mark ≡ longer job → b .found ≡ true
         → searchOf job room
         ≡ answered (record {
-          bytes = circuitBytes n m (b .layout) (take (b .len) (b .path));
+          bytes = circuitBytes n m mark (b .layout) (take (b .len) (b .path));
           measures = measuresOf (priceOf job) (durationOf job) (take (b .len) (b .path));
         })
     unfolding view recordOf choice
-    reached n m e k h = past ∙ rw (h, e, k)
+    reached n m mark e k q h = past ∙ rw (h, e, k, q)
+
+-- a job that allows two controls is a shorter one
+two-shorter : (t : Bool) → pick {A = ℕ} t 3 2 ≡ 2 → t ≡ false
+two-shorter true h = absurd (omega arith)
+two-shorter false h = refl
 
 pub odd-nothing : (job : List ℕ) → jobCode job ≡ 0 → alwaysNone job ≡ true → firstGood (problemOf job) ≡ none
 unfolding alwaysNone
 odd-nothing job sound h =
     let n = eqb (dataWires job) 4 in
     let m = eqb (ancillas job) 0 in
-    let k = both-parts (both n m) (isOdd (tableParity job)) h in
+    let few = eqb (mostControls job) 2 in
+    let k = both-parts (both n m) (both few (isOdd (tableParity job))) h in
     let w = both-parts n m (k .0) in
-    odd-first job sound (eqb-true (dataWires job) 4 (w .0)) (eqb-true (ancillas job) 0 (w .1)) (odd-is (tableParity job) (k .1))
+    let o = both-parts few (isOdd (tableParity job)) (k .1) in
+    odd-first job sound (eqb-true (dataWires job) 4 (w .0)) (eqb-true (ancillas job) 0 (w .1)) (odd-is (tableParity job) (o .1))
+    (two-shorter (longer job) (eqb-true (mostControls job) 2 (o .0)))
 
 -- what is found is told and written
 module _ {o : Answer Found} {f : Found} (found : o ≡ answered f) (k : ℕ) (sized : k ≡ length (f .bytes)) where

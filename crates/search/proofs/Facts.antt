@@ -1,6 +1,6 @@
 -- The search in demand 3's words: what a found circuit is, when there is none, and that nothing else is refused.
 use mathlib.Core.Path.{_≡_, refl, sym, ap, _∙_}
-use mathlib.Core.Bool.{true, true≢false}
+use mathlib.Core.Bool.{Bool, true, false}
 use mathlib.Core.Logic.{_⊎_, inl, inr, _↔_}
 use mathlib.Core.List.{List}
 use mathlib.Core.Option.{Option, none, some}
@@ -8,21 +8,23 @@ use Prim.Native.Nat.{ℕ, _≤_, _<_}
 use native.Mathlib.Decide.{ℕ-discrete}
 use native.Mathlib.Omega.{arith}
 use borrow.Author.Tests.{leb-true, le-leb, ne-eqb}
-use lib.Dec.{leb, lit<}
+use lib.Dec.{leb, lit<, lit≤}
 use lib.ListN.{length}
 use Rattle.logic.specs.Rules.{rule}
 use Rattle.logic.specs.Lists.{allOf}
 use Rattle.logic.specs.Answers.{refused, answered}
 use Rattle.logic.proofs.Chain.{and-then-zero, rule-kept}
 use Rattle.gate.specs.Gates.{lawful}
-use Rattle.gate.proofs.Tables.{among-lawful, lawful-among}
+use Rattle.gate.proofs.Tables.{among-lawful, lawful-among, all-widen}
 use Rattle.table.specs.Layouts.{allowed}
 use Rattle.table.proofs.Layouts.{layout-is, layout-has, allowed-ok}
-use Rattle.record.specs.Jobs.{dataWires, ancillas, wires, freeLayout, gateLimit, priceOf, durationOf, jobCode}
-use Rattle.record.proofs.Kept.{sound-job, wires-within}
+use Rattle.record.specs.Jobs.{longer, mostControls, dataWires, ancillas, wires, freeLayout, gateLimit, priceOf, durationOf, jobCode}
+use Rattle.record.proofs.Kept.{sound-job, wires-within, two-or-three}
 use Rattle.verify.specs.Calls.{measuresOf}
 use Rattle.parity.specs.Parity.{odd, tableParity}
-use Rattle.parity.proofs.Never.{none-realizes}
+use Rattle.parity.specs.Ends.{threeControlGates}
+use Rattle.parity.proofs.Even.{none-of-three}
+use Rattle.parity.proofs.Never.{odd-needs-three}
 use Rattle.choice.specs.Choices.{Choice}
 use Rattle.problem.specs.Problems.{choiceOf, firstGood}
 use Rattle.problem.specs.Demand.{Admitted, Solves, Winner}
@@ -49,11 +51,11 @@ module _ (job : List ℕ) (sound : jobCode job ≡ 0) where
   -- what the job's problem admits, in the job's own words: lawful gates within the limit, and an allowed layout byte
   pub admitted-is : (l : List ℕ) (p : ℕ)
       → Admitted (problemOf job) l p
-      ↔ ((allOf (lawful 2 (wires job)) l ≡ true) × ((length l ≤ gateLimit job) × ((allowed (dataWires job) (freeLayout job) p ≡ true) × (p < 256))))
+      ↔ ((allOf (lawful (mostControls job) (wires job)) l ≡ true) × ((length l ≤ gateLimit job) × ((allowed (dataWires job) (freeLayout job) p ≡ true) × (p < 256))))
   unfolding problemOf
   admitted-is l p = (
     (λ a. (
-      among-lawful 2 (wires job) l (a .gates-listed),
+      among-lawful (mostControls job) (wires job) l (a .gates-listed),
       (
         a .gates-within,
         (
@@ -63,7 +65,7 @@ module _ (job : List ℕ) (sound : jobCode job ≡ 0) where
       ),
     )),
     (λ h. record {
-      gates-listed = lawful-among 2 (wires job) (wires-within job sound .1) l (h .0);
+      gates-listed = lawful-among (mostControls job) (wires job) (wires-within job sound .1) l (h .0);
       gates-within = h .1 .0;
       layout-listed = layout-has (dataWires job) (freeLayout job) p (h .1 .1 .1) (h .1 .1 .0);
     }),
@@ -109,22 +111,31 @@ module _ (job : List ℕ) (sound : jobCode job ≡ 0) where
         by-first none e = inl (past ∙ ap (outcomeOf job) e)
         by-first (some c) e = inr (foundOf job c, past ∙ ap (outcomeOf job) e)
 
-  -- 3. Four data wires, no ancilla, an odd table: nothing solves the job, at any limit.
+  -- 3. Four data wires, no ancilla, an odd table: what solves the job has a three-control gate, so nothing solves a shorter one, at any limit.
   module _ (four : dataWires job ≡ 4) (bare : ancillas job ≡ 0) (is-odd : tableParity job ≡ odd) where
     four-wires : wires job ≡ 4
     unfolding wires
     four-wires = omega arith
 
-    unsolved : (l : List ℕ) (p : ℕ) → Solves (problemOf job) l p → ⊥
+    kept : (l : List ℕ) (p : ℕ) → Solves (problemOf job) l p → allOf (lawful (mostControls job) 4) l ≡ true
+    kept l p s = rw four-wires at (admitted-is l p .0 (s .admitted) .0)
+
+    pub odd-solved : (l : List ℕ) (p : ℕ) → Solves (problemOf job) l p → 1 ≤ threeControlGates l
     unfolding problemOf
-    unsolved l p s =
-        let a = s .admitted in
-        let ok = allowed-ok (dataWires job) (freeLayout job) p (sound-job job sound .width) (a .layout-listed) in
-        let kept = rw four-wires at (among-lawful 2 (wires job) l (a .gates-listed)) in
-        true≢false (sym (rw four at (s .realizing)) ∙ none-realizes job sound four is-odd l p kept (ok .0) (rw four at (ok .1)))
+    odd-solved l p s =
+        let ok = allowed-ok (dataWires job) (freeLayout job) p (sound-job job sound .width) (s .admitted .layout-listed) in
+        odd-needs-three job sound four is-odd l p
+        (all-widen (mostControls job) 4 3 4 (two-or-three (longer job) .1) (lit≤ tt) l (kept l p s)) (ok .0) (rw four at (ok .1))
+        (rw four at (s .realizing))
 
-    pub odd-none : (room : ℕ) → 15 ≤ room → searchOf job room ≡ refused 14
-    odd-none room wide = none-is room wide .1 unsolved
+    module _ (shorter : longer job ≡ false) where
+      unsolved : (l : List ℕ) (p : ℕ) → Solves (problemOf job) l p → ⊥
+      unsolved l p s =
+          let few = rw shorter at (kept l p s) in
+          omega (arith, odd-solved l p s, none-of-three l few)
 
-    pub odd-first : firstGood (problemOf job) ≡ none
-    odd-first = Demand.none-is (problemOf job) .1 unsolved
+      pub odd-none : (room : ℕ) → 15 ≤ room → searchOf job room ≡ refused 14
+      odd-none room wide = none-is room wide .1 unsolved
+
+      pub odd-first : firstGood (problemOf job) ≡ none
+      odd-first = Demand.none-is (problemOf job) .1 unsolved

@@ -1,31 +1,35 @@
 -- What the search hands to the solver poses the job's problem.
 use mathlib.Core.Path.{_≡_, refl, sym, ap, ap₂, _∙_, subst}
-use mathlib.Core.Bool.{true}
-use mathlib.Core.Logic.{⊎-elim}
+use mathlib.Core.Bool.{Bool, true, false}
+use mathlib.Core.Logic.{_⊎_, inl, inr, ⊎-elim}
 use mathlib.Core.List.{List, List·Memᴰ}
 use Prim.Native.Nat.{ℕ, _^_, _≤_, _<_}
 use native.Mathlib.Omega.{arith}
 use lib.ListN.{length, getD, take}
 use lib.Seq.{length-take-le, getD-take}
-use Rattle.logic.specs.Rules.{both}
+use Rattle.logic.specs.Rules.{both, pick}
 use Rattle.logic.specs.Lists.{Among}
 use Rattle.logic.proofs.Members.{member-at, among-all}
 use Rattle.gate.specs.Gates.{lawful, gatesFor}
 use Rattle.gate.proofs.Tables.{gate-is}
-use Rattle.gate.proofs.Widen.{widen}
+use Rattle.gate.proofs.Widen.{widen, parts}
 use Rattle.circuit.specs.declared.Weights.{Weights}
 use Rattle.circuit.specs.Measure.{weightOf}
 use Rattle.circuit.specs.Inner.{columnsAfter}
-use Rattle.table.specs.Layouts.{Width}
 use Rattle.table.specs.Rows.{realizes}
-use Rattle.record.specs.Jobs.{dataWires, wires, prices, durations, rows, jobCode}
-use Rattle.record.proofs.Kept.{sound-job, wires-within}
+use Rattle.record.specs.Jobs.{longer, mostControls, dataWires, wires, prices, durations, rows, jobCode}
+use Rattle.record.proofs.Kept.{sound-job, wires-within, two-or-three}
 use Rattle.columns.specs.Wanted.{wantedOf, columnsOf, startColumns, reached}
 use Rattle.columns.proofs.Agreement.{met-agrees, tidy-clean}
 use Rattle.solver.specs.declared.Task.{Task}
-use Rattle.solver.specs.States.{Slices, Asks, Posed, Limited}
+use Rattle.solver.specs.States.{Slices, Fair, Asks, Posed, Limited}
 use Rattle.search.specs.Outcomes.{problemOf}
 use Rattle.search.specs.Inner.{taskOf}
+
+-- gates of a job have at most two or three controls
+two-three : (more : Bool) → (pick {A = ℕ} more 3 2 ≡ 2) ⊎ (pick {A = ℕ} more 3 2 ≡ 3)
+two-three true = inr refl
+two-three false = inl refl
 
 module _ (job : List ℕ) (sound : jobCode job ≡ 0) where
   pub rows-few : length (rows job) ≤ 16
@@ -37,15 +41,19 @@ module _ (job : List ℕ) (sound : jobCode job ≡ 0) where
       (λ (e : dataWires job ≡ 4). let k : length (rows job) ≡ 16 = r ∙ ap (λ (n : ℕ). 2 ^ n) e in omega arith)
       (s .width)
 
-  known : (g : ℕ) → List·Memᴰ g (gatesFor 2 (wires job)) → lawful 2 5 g ≡ true
-  known g m = widen 2 (wires job) 2 5 g (omega arith) (wires-within job sound .1) (gate-is 2 (wires job) g m)
+  -- the job's gates, each known with as many controls as the job allows or more
+  abbrev listing : List ℕ
+  listing = gatesFor (mostControls job) (wires job)
+
+  known : (k g : ℕ) → mostControls job ≤ k → List·Memᴰ g listing → lawful k 5 g ≡ true
+  known k g h m = widen (mostControls job) (wires job) k 5 g h (wires-within job sound .1) (gate-is (mostControls job) (wires job) g m)
 
   -- the test of columns is the test of rows
-  columned : (p : ℕ) (l : List ℕ) → Among (gatesFor 2 (wires job)) l
+  columned : (p : ℕ) (l : List ℕ) → Among listing l
       → realizes (dataWires job) (rows job) p l ≡ reached (wantedOf (rows job)) (dataWires job) (columnsAfter l startColumns) p
   unfolding realizes
   columned p l a =
-      let h = among-all (lawful 2 5) (gatesFor 2 (wires job)) l known a in
+      let h = among-all (lawful 3 5) listing l (λ g m. known 3 g (two-or-three (longer job) .1) m) a in
       sym (ap₂ both (met-agrees (rows job) l rows-few h p) (tidy-clean l h (dataWires job) (sound-job job sound .width)))
 
 -- each of the gates has its weight in a table
@@ -56,7 +64,7 @@ Weighs ws gates weights = (i : ℕ) → i < length gates → getD weights i 0 �
 pub record Handed (job : List ℕ) (task : Task) (table paid held : List ℕ) (count : ℕ) : Type 0 where
   pub sound : jobCode job ≡ 0
   pub tasked : task ≡ taskOf job
-  pub listed : take count table ≡ gatesFor 2 (wires job)
+  pub listed : take count table ≡ gatesFor (mostControls job) (wires job)
   pub long : count ≤ length table
   pub long-paid : count ≤ length paid
   pub long-held : count ≤ length held
@@ -64,11 +72,13 @@ pub record Handed (job : List ℕ) (task : Task) (table paid held : List ℕ) (c
   pub timed : Weighs (durations job) (take count table) held
 
 module _ {job : List ℕ} {task : Task} {table paid held : List ℕ} {count : ℕ} (h : Handed job task table paid held count) where
-  pub in-range : Width (task .outputs) × (task .«gate_limit» ≤ 12)
+  fair : Fair (taskOf job)
   unfolding taskOf
-  in-range =
-      let s = sound-job job (h .sound) in
-      subst (λ (u : Task). Width (u .outputs) × (u .«gate_limit» ≤ 12)) (sym (h .tasked)) (s .width, s .limit)
+  fair = record { wide = sound-job job (h .sound) .width; few = two-three (longer job) }
+
+  pub in-range : Fair task × (task .«gate_limit» ≤ 12)
+  unfolding taskOf
+  in-range = subst (λ (u : Task). Fair u × (u .«gate_limit» ≤ 12)) (sym (h .tasked)) (fair, sound-job job (h .sound) .limit)
 
   pub limited : Limited (problemOf job) task
   unfolding problemOf taskOf
@@ -78,7 +88,14 @@ module _ {job : List ℕ} {task : Task} {table paid held : List ℕ} {count : �
   unfolding problemOf taskOf wantedOf columnsOf
   asked =
       subst (Asks (problemOf job)) (sym (h .tasked))
-      (record { wide = sound-job job (h .sound) .width; four = refl; laid = refl; table = columned job (h .sound); deep = refl; kinds = known job (h .sound) })
+      (record {
+        fair = fair;
+        four = refl;
+        laid = refl;
+        table = columned job (h .sound);
+        deep = refl;
+        kinds = λ g m. known job (h .sound) (mostControls job) g (omega arith) m;
+      })
 
   pub sliced : Slices (take count table) (take count paid) (take count held)
   sliced =
@@ -88,7 +105,8 @@ module _ {job : List ℕ} {task : Task} {table paid held : List ℕ} {count : �
         timed-all = length-take-le count held (h .long-held) ∙ e;
         known = λ i k.
             let g = getD (take count table) i 0 in
-            known job (h .sound) g (subst (List·Memᴰ g) (h .listed) (member-at (take count table) i k));
+            let m = subst (List·Memᴰ g) (h .listed) (member-at (take count table) i k) in
+            parts (mostControls job) 5 g (known job (h .sound) (mostControls job) g (omega arith) m) .target;
       }
 
   cut : (ws : Weights) (weights : List ℕ) → Weighs ws (take count table) weights → Weighs ws (take count table) (take count weights)

@@ -9,7 +9,8 @@ use Rattle.logic.specs.Answers.{Answer, refused, answered}
 use Rattle.gate.specs.Gates.{gatesFor}
 use Rattle.table.specs.Layouts.{layoutsFor}
 use Rattle.table.specs.Rows.{realizes}
-use Rattle.record.specs.Jobs.{dataWires, ancillas, wires, freeLayout, gateLimit, costLimit, depthLimit, priceOf, durationOf, rows, jobCode}
+use Rattle.record.specs.Jobs.{longer, mostControls, dataWires, ancillas, wires, freeLayout, gateLimit, costLimit, depthLimit}
+use Rattle.record.specs.Jobs.{priceOf, durationOf, rows, jobCode}
 use Rattle.record.specs.Circuits.{circuitBytes}
 use Rattle.verify.specs.declared.Measures.{Measures}
 use Rattle.verify.specs.Calls.{measuresOf}
@@ -17,10 +18,11 @@ use Rattle.choice.specs.Choices.{Choice}
 use Rattle.problem.specs.Problems.{Problem, firstGood}
 use Rattle.search.specs.declared.Searched.{Searched}
 
--- "the meeting circuit with the job's n and m and an allowed placing, within all limits (each limit is itself allowed)"
+-- "the meeting circuit with the job's n and m and an allowed placing, within all limits (each limit is itself allowed)"; for a longer job
+-- "least cost and 'none' range over the larger gate set" (02)
 unfoldable pub problemOf : List ℕ → Problem
 problemOf job = record {
-  gates = gatesFor 2 (wires job);
+  gates = gatesFor (mostControls job) (wires job);
   layouts = layoutsFor (dataWires job) (freeLayout job);
   price = priceOf job;
   duration = durationOf job;
@@ -30,9 +32,9 @@ problemOf job = record {
   mostDepth = depthLimit job;
 }
 
--- a circuit record with the job's n and m
+-- a circuit record with the job's n and m; a longer job's "answers carry a 1 in the lowest bit of the circuit's byte 0" (02)
 unfoldable pub recordOf : List ℕ → ℕ → List ℕ → List ℕ
-recordOf job p l = circuitBytes (dataWires job) (ancillas job) p l
+recordOf job p l = circuitBytes (dataWires job) (ancillas job) (longer job) p l
 
 -- what a search finds
 pub record Found : Type 0 where

@@ -20,20 +20,21 @@ pub enum Searched {
     Found(usize, Measures),
 }
 
-// Whether no list of any length realizes the table: four data wires, no ancilla, an odd permutation.
+// Whether no list of any length realizes the table: four data wires, no ancilla, gates of at most two controls, an odd permutation.
 fn always_none(job: &[u8]) -> bool
     ensures { λ r. ⌜ r ≡ alwaysNone (now (job .entry)) ⌝ }
 {
     let bare = logic::both(record::data_wires(job) == 4, record::ancillas(job) == 0);
-    logic::both(bare, parity::odd_table(job))
+    let odd = logic::both(record::most_controls(job) == 2, parity::odd_table(job));
+    logic::both(bare, odd)
 }
 
 // The weight of each gate of a table, with room for the longest one.
-fn weigh(weights: Weights, gates: &[u8]) -> [u8; 55]
-    requires { ⌜ length (now gates) ≤ 55 ⌝ }
+fn weigh(weights: Weights, gates: &[u8]) -> [u8; 75]
+    requires { ⌜ length (now gates) ≤ 75 ⌝ }
     ensures { λ r. ⌜ ((i : ℕ) → i < length (now (gates .entry)) → getD r i 0 ≡ weightOf weights (getD (now (gates .entry)) i 0)) ⌝ }
 {
-    let mut table = [0u8; 55];
+    let mut table = [0u8; 75];
     let mut i = 0;
     while i < gates.len() {
         table[i] = circuit::weight(weights, gates[i]);
@@ -51,6 +52,7 @@ fn task_of(job: &[u8]) -> Task
         wanted: columns::wanted_of(record::table(job)),
         outputs: record::data_wires(job),
         free: record::free_layout(job),
+        controls: record::most_controls(job),
         gate_limit: record::gate_limit(job),
         cost_limit: record::cost_limit(job),
         depth_limit: record::depth_limit(job),
@@ -66,9 +68,10 @@ fn first_good(job: &[u8]) -> Best
     if always_none(job) {
         return choice::nothing();
     }
+    let most = record::most_controls(job);
     let wires = record::wires(job);
-    let count = gate::gate_count(wires);
-    let gates = gate::gate_table(wires);
+    let count = gate::gate_count(most, wires);
+    let gates = gate::gate_table(most, wires);
     let prices = weigh(record::prices(job), &gates[..count]);
     let durations = weigh(record::durations(job), &gates[..count]);
     solver::solve(
@@ -112,6 +115,7 @@ pub fn search(job: &[u8], answer: &mut [u8]) -> Searched
     let measures = measures_of(job, path, len);
     let n = record::data_wires(job);
     let m = record::ancillas(job);
-    let size = record::write_record(n, m, best.layout, path, len, answer);
+    let mark = record::longer(job);
+    let size = record::write_record(n, m, mark, best.layout, path, len, answer);
     Searched::Found(size, measures)
 }

@@ -45,13 +45,13 @@ module _ (P : Problem) (task : Task) (asks : Asks P task) (l cs : List ℕ) (kep
 
   -- a list that goes on to what is asked for is a way to finish from these columns
   pub finish-of : (e : List ℕ) (p : ℕ) → Among (P .gates) e → List·Memᴰ p (P .layouts) → P .realized p (l ++ e) ≡ true
-      → Finish 2 (task .wanted) (task .outputs) (task .free) cs e p
+      → Finish (task .controls) (task .wanted) (task .outputs) (task .free) cs e p
   unfolding startColumns
   finish-of e p among m r = record {
-    width = asks .wide;
+    width = asks .fair .wide;
     four = asks .four;
     five = ap length columned ∙ columns-length l startColumns;
-    kept = among-all (lawful 2 5) (P .gates) e (asks .kinds) among;
+    kept = among-all (lawful (task .controls) 5) (P .gates) e (asks .kinds) among;
     laid = rw (asks .laid) at m;
     meets = both-left (met (task .wanted) (columnsAfter e cs) p) (tidy (task .outputs) (columnsAfter e cs)) (ends-reached e p among r);
     tidied = both-right (met (task .wanted) (columnsAfter e cs) p) (tidy (task .outputs) (columnsAfter e cs)) (ends-reached e p among r);
@@ -60,7 +60,7 @@ module _ (P : Problem) (task : Task) (asks : Asks P task) (l cs : List ℕ) (kep
   -- the outputs that no sum of the columns gives want a heavy gate each
   pub needs-span : (k : ℕ) → k ≡ needed (task .wanted) cs (task .outputs) → Needs P l k
   needs-span k h = record {
-    least = λ e p among m r. rw h (needed-few 2 (task .wanted) (task .outputs) (task .free) cs e p (finish-of e p among m r));
+    least = λ e p among m r. rw h (needed-few (task .controls) (task .wanted) (task .outputs) (task .free) cs e p (finish-of e p among m r));
   }
 
 -- a light gate leaves what is needed

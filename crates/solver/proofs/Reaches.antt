@@ -88,14 +88,14 @@ module _ (P : Problem) (limit : ℕ) (least : Least) (s : Node) (bounded : Bound
 
 module _ (P : Problem) (task : Task) (s : Node) (asks : Asks P task) (at : At P s) where
   finish : (e : List ℕ) (p : ℕ) → Among (P .gates) e → List·Memᴰ p (P .layouts) → P .realized p (listOf s ++ e) ≡ true
-      → Finish 2 (task .wanted) (task .outputs) (task .free) (s .columns) e p
+      → Finish (task .controls) (task .wanted) (task .outputs) (task .free) (s .columns) e p
   finish = finish-of P task asks (listOf s) (s .columns) (at .kept) (at .columned)
 
   abbrev missing : ℕ
   missing = lost (task .wanted) (s .columns) (task .outputs) (task .free)
 
   few : (e : List ℕ) (p : ℕ) → Among (P .gates) e → List·Memᴰ p (P .layouts) → P .realized p (listOf s ++ e) ≡ true → missing ≤ length e
-  few e p among m r = lost-few 2 (task .wanted) (task .outputs) (task .free) (s .columns) e p (finish e p among m r)
+  few e p among m r = lost-few (task .controls) (task .wanted) (task .outputs) (task .free) (s .columns) e p (finish e p among m r)
 
   -- more outputs are missed, or more heavy gates needed, than gates can still come
   pub far : (limit remaining most : ℕ) (held : Option Choice) → Enough P limit (listOf s) remaining most held → (most < missing) ⊎ (most < s .needs)
@@ -120,12 +120,12 @@ module _ (P : Problem) (task : Task) (s : Node) (asks : Asks P task) (at : At P 
     pub not-worth : worth (task .wanted) (s .columns) (task .outputs) (task .free) g most ≡ false → Passed P limit s g remaining held
     not-worth w =
         skip-gate P limit (listOf s) remaining most held enough g i some-left some-most
-        λ e p among m short r. worth-not 2 (task .wanted) (task .outputs) (task .free) (s .columns) g e p most (finish (g ∷ e) p (among-cons i among) m r) w short
+        λ e p among m short r. worth-not (task .controls) (task .wanted) (task .outputs) (task .free) (s .columns) g e p most (finish (g ∷ e) p (among-cons i among) m r) w short
 
     -- no gate after it mends what is missed
-    pub stuck-after : stuck (task .wanted) (columnStep (gateOf g) (s .columns)) (task .outputs) (task .free) (most - 1) ≡ true → Passed P limit s g remaining held
+    pub stuck-after : stuck (task .controls) (task .wanted) (columnStep (gateOf g) (s .columns)) (task .outputs) (task .free) (most - 1) ≡ true → Passed P limit s g remaining held
     stuck-after w =
         skip-gate P limit (listOf s) remaining most held enough g i some-left some-most
         λ e p among m short r.
-        stuck-none (task .wanted) (task .outputs) (task .free) (columnStep (gateOf g) (s .columns)) e p (most - 1)
-        (finish-next 2 (task .wanted) (task .outputs) (task .free) (s .columns) g e p (finish (g ∷ e) p (among-cons i among) m r)) w (omega arith)
+        stuck-none (task .controls) (task .wanted) (task .outputs) (task .free) (columnStep (gateOf g) (s .columns)) e p (most - 1)
+        (finish-next (task .controls) (task .wanted) (task .outputs) (task .free) (s .columns) g e p (finish (g ∷ e) p (among-cons i among) m r)) w (omega arith)

@@ -23,7 +23,7 @@ use Rattle.budget.proofs.Afford.{reach-most}
 use Rattle.budget.proofs.Sums.{sums-marked}
 use Rattle.solver.specs.declared.Task.{Task}
 use Rattle.solver.specs.declared.Least.{Least}
-use Rattle.solver.specs.States.{Posed, Limited, Bounded, Priced, limitedTo}
+use Rattle.solver.specs.States.{Fair, Posed, Limited, Bounded, Priced, limitedTo}
 
 -- the gates that a cost buys
 pub bought : (P : Problem) (least : Least) → Bounded P least → (limit : ℕ) (a : Choice) → List·Memᴰ a (choices P) → good P a ≡ true → a .cost ≤ limit
@@ -36,6 +36,11 @@ bought P least bounded limit a m h c =
     rw (gates-are P (P .mostGates) a i)
     (reach-most (least .low) (least .extra) (P .gates) (P .price) (bounded .costs) (i .more) (i .among) (least .needs) limit few
     (rw (cost-is P (P .mostGates) a i) at c) (P .mostGates) (i .short))
+
+-- another limit on cost leaves a task's outputs and controls
+pub fair-limited : (task : Task) (c : ℕ) → Fair task → Fair (limitedTo task c)
+unfolding limitedTo
+fair-limited task c f = record { wide = f .wide; few = f .few }
 
 module _ (P : Problem) (task : Task) (gates prices durations : List ℕ) (posed : Posed P task gates prices durations) where
   -- each gate's price is one of the slice
@@ -71,7 +76,7 @@ module _ (P : Problem) (task : Task) (gates prices durations : List ℕ) (posed 
   pub posed-limited : (c : ℕ) → Posed P (limitedTo task c) gates prices durations
   unfolding limitedTo
   posed-limited c = record {
-    asks = let a = posed .asks in record { wide = a .wide; four = a .four; laid = a .laid; table = a .table; deep = a .deep; kinds = a .kinds };
+    asks = let a = posed .asks in record { fair = fair-limited task c (a .fair); four = a .four; laid = a .laid; table = a .table; deep = a .deep; kinds = a .kinds };
     listed = posed .listed;
     priced = posed .priced;
     timed = posed .timed;

@@ -7,7 +7,7 @@ use mathlib.Core.Option.{Option}
 use Prim.Native.Nat.{ℕ, _+_, _-_, _*_, _≤_, _<_}
 use lib.ListN.{length, getD, take}
 use Rattle.logic.specs.Lists.{Among}
-use Rattle.gate.specs.Gates.{lawful}
+use Rattle.gate.specs.Gates.{targetOf, lawful}
 use Rattle.circuit.specs.Measure.{cost, readyTimes}
 use Rattle.circuit.specs.Inner.{columnsAfter}
 use Rattle.table.specs.Layouts.{Width, layoutsFor}
@@ -19,6 +19,7 @@ use Rattle.choice.specs.Inner.{view}
 use Rattle.problem.specs.Inner.{lookedUnder, Past, Dearer, Shortest}
 use Rattle.budget.specs.Heavy.{heavies}
 use Rattle.budget.specs.Afford.{CostsAtLeast}
+use Rattle.outputs.specs.Owed.{Controls}
 use Rattle.solver.specs.declared.Task.{Task}
 use Rattle.solver.specs.declared.Least.{Least}
 use Rattle.solver.specs.declared.Node.{Node}
@@ -28,11 +29,11 @@ use Rattle.solver.specs.declared.Entry.{Entry}
 abbrev pub listOf : Node → List ℕ
 listOf s = take (s .len) (s .path)
 
--- three slices of one length, of gates that the columns' step knows
+-- three slices of one length, of gates on the five wires
 pub record Slices (gates prices durations : List ℕ) : Type 0 where
   pub priced-all : length prices ≡ length gates
   pub timed-all : length durations ≡ length gates
-  pub known : (i : ℕ) → i < length gates → lawful 2 5 (getD gates i 0) ≡ true
+  pub known : (i : ℕ) → i < length gates → targetOf (getD gates i 0) < 5
 
 -- the list of a node has its room, and the sums fit their words
 pub record Small (s : Node) : Type 0 where
@@ -41,9 +42,14 @@ pub record Small (s : Node) : Type 0 where
   pub cheap : s .cost ≤ 255 * s .len
   pub few : s .needs ≤ 12
 
+-- a task has three or four outputs, and gates of at most two or three controls
+pub record Fair (task : Task) : Type 0 where
+  pub wide : Width (task .outputs)
+  pub few : Controls (task .controls)
+
 -- what the numbers of a search keep to
 pub record Ready (task : Task) (least : Least) : Type 0 where
-  pub wide : Width (task .outputs)
+  pub fair : Fair task
   pub modest : least .extra ≤ 255
   pub few : least .needs ≤ 12
 
@@ -51,14 +57,14 @@ pub record Ready (task : Task) (least : Least) : Type 0 where
 pub record Needs (P : Problem) (l : List ℕ) (k : ℕ) : Type 0 where
   pub least : (e : List ℕ) (p : ℕ) → Among (P .gates) e → List·Memᴰ p (P .layouts) → P .realized p (l ++ e) ≡ true → k ≤ heavies e
 
--- the task asks what the problem does: the layouts, the wanted columns and the limit on depth; the gates are of the kinds that columns know
+-- the task asks what the problem does: the layouts, the wanted columns and the limit on depth; the gates have no more controls than its own
 pub record Asks (P : Problem) (task : Task) : Type 0 where
-  pub wide : Width (task .outputs)
+  pub fair : Fair task
   pub four : length (task .wanted .care) ≡ 4
   pub laid : P .layouts ≡ layoutsFor (task .outputs) (task .free)
   pub table : (p : ℕ) (l : List ℕ) → Among (P .gates) l → P .realized p l ≡ reached (task .wanted) (task .outputs) (columnsAfter l startColumns) p
   pub deep : task .«depth_limit» ≡ P .mostDepth
-  pub kinds : (g : ℕ) → List·Memᴰ g (P .gates) → lawful 2 5 g ≡ true
+  pub kinds : (g : ℕ) → List·Memᴰ g (P .gates) → lawful (task .controls) 5 g ≡ true
 
 -- and the slices are the problem's gates with their prices and durations
 pub record Posed (P : Problem) (task : Task) (gates prices durations : List ℕ) : Type 0 where
@@ -117,6 +123,7 @@ limitedTo task c = record {
   wanted = task .wanted;
   outputs = task .outputs;
   free = task .free;
+  controls = task .controls;
   «gate_limit» = task .«gate_limit»;
   «cost_limit» = c;
   «depth_limit» = task .«depth_limit»;

@@ -9,7 +9,7 @@ ghost use mathlib.Core.Option.{none};
 ghost use Prim.Native.Nat.{ℕ, _+_, _≤_, _<_};
 ghost use lib.ListN.{length, getD};
 ghost use Rattle.logic.specs.Lists.{Among};
-ghost use Rattle.gate.specs.Gates.{lawful};
+ghost use Rattle.gate.specs.Gates.{targetOf};
 ghost use Rattle.circuit.specs.Measure.{cost};
 ghost use Rattle.circuit.specs.Inner.{columnsAfter};
 ghost use Rattle.table.specs.Layouts.{Width};
@@ -21,13 +21,14 @@ ghost use Rattle.problem.specs.Inner.{lookedUnder, Enough, Past, Shortest};
 ghost use Rattle.budget.specs.Sums.{Marked};
 ghost use Rattle.outputs.specs.Owed.{lost};
 ghost use Rattle.outputs.specs.Inner.{tableOf};
-ghost use Rattle.solver.specs.States.{listOf, Slices, Small, Ready, Needs, Asks, Posed, Limited, Bounded, At, Lists, Follows, Passed, Deepened, Priced, limitedTo};
+ghost use Rattle.solver.specs.States.{listOf, Slices, Small, Fair, Ready, Needs, Asks, Posed, Limited, Bounded, At, Lists, Follows, Passed, Deepened, Priced, limitedTo};
 
-// What a search asks for.
+// What a search asks for; gates have at most `controls` controls.
 pub struct Task {
     pub wanted: Wanted,
     pub outputs: usize,
     pub free: usize,
+    pub controls: usize,
     pub gate_limit: usize,
     pub cost_limit: usize,
     pub depth_limit: usize,
@@ -185,11 +186,11 @@ fn still_needed(task: Task, least: Least, columns: [u16; 5], g: u8, needs: usize
 
 // The node one gate further.
 fn advance(table: &[u16], task: Task, least: Least, s: Node, entry: Entry) -> Node
-    requires { ⌜ (length (now table) ≡ 40) × (lawful 2 5 (entry .gate) ≡ true) ⌝ }
+    requires { ⌜ (length (now table) ≡ 40) × (targetOf (entry .gate) < 5) ⌝ }
     requires { ⌜ Width (task .outputs) × (s .len < 12) ⌝ }
     requires { ⌜ Small s ⌝ }
     ensures { λ r. ⌜ (r .len ≡ s .len + 1) × Small r ⌝ }
-    ensures { λ r. ⌜ ((P : Problem) → Asks P task → At P s → Lists P entry → now (table .entry) ≡ tableOf (task .wanted) (s .columns) → Follows P s (entry .gate) r) ⌝ }
+    ensures { λ r. ⌜ ((P : Problem) → Asks P task → At P s → Lists P entry → now (table .entry) ≡ tableOf (task .controls) (task .wanted) (s .columns) → Follows P s (entry .gate) r) ⌝ }
 {
     let before = s.columns;
     let columns = outputs::step(table, before, entry.gate);
@@ -209,10 +210,10 @@ fn advance(table: &[u16], task: Task, least: Least, s: Node, entry: Entry) -> No
 
 // Whether one gate of a node, where at most `most` gates may still come, can lead to something better than what is held.
 fn promising(table: &[u16], task: Task, s: Node, entry: Entry, most: usize, best: Best) -> bool
-    requires { ⌜ (length (now table) ≡ 40) × (lawful 2 5 (entry .gate) ≡ true) ⌝ }
-    requires { ⌜ Width (task .outputs) × ((s .len < 12) × (1 ≤ most)) ⌝ }
+    requires { ⌜ (length (now table) ≡ 40) × (targetOf (entry .gate) < 5) ⌝ }
+    requires { ⌜ Fair task × ((s .len < 12) × (1 ≤ most)) ⌝ }
     requires { ⌜ Small s ⌝ }
-    ensures { λ r. ⌜ ((P : Problem) (remaining : ℕ) → Asks P task → At P s → Lists P entry → now (table .entry) ≡ tableOf (task .wanted) (s .columns) → 1 ≤ remaining → Enough P (task .«cost_limit») (listOf s) remaining most (view best) → r ≡ false → Passed P (task .«cost_limit») s (entry .gate) remaining (view best)) ⌝ }
+    ensures { λ r. ⌜ ((P : Problem) (remaining : ℕ) → Asks P task → At P s → Lists P entry → now (table .entry) ≡ tableOf (task .controls) (task .wanted) (s .columns) → 1 ≤ remaining → Enough P (task .«cost_limit») (listOf s) remaining most (view best) → r ≡ false → Passed P (task .«cost_limit») s (entry .gate) remaining (view best)) ⌝ }
 {
     let cost = s.cost as usize + entry.price as usize;
     if dear(task.cost_limit, cost, s.len + 1, best) {
@@ -221,7 +222,14 @@ fn promising(table: &[u16], task: Task, s: Node, entry: Entry, most: usize, best
     let wanted = task.wanted;
     let columns = s.columns;
     let next = outputs::step(table, columns, entry.gate);
-    if outputs::stuck(wanted, next, task.outputs, task.free, most - 1) {
+    if outputs::stuck(
+        task.controls,
+        wanted,
+        next,
+        task.outputs,
+        task.free,
+        most - 1,
+    ) {
         return false;
     }
     // twelve gates of the greatest duration end by 3060, so a greater limit cuts nothing
@@ -245,7 +253,7 @@ fn dfs(
     best: Best,
 ) -> Best
     requires { ⌜ Slices (now gates) (now prices) (now durations) ⌝ }
-    requires { ⌜ Width (task .outputs) × (least .extra ≤ 255) ⌝ }
+    requires { ⌜ Fair task × (least .extra ≤ 255) ⌝ }
     requires { ⌜ (s .len + remaining ≤ 12) × (best .len ≤ 12) ⌝ }
     requires { ⌜ Small s ⌝ }
     ensures { λ r. ⌜ ((P : Problem) → Posed P task (now (gates .entry)) (now (prices .entry)) (now (durations .entry)) → Bounded P least → At P s → view r ≡ lookedUnder P (task .«cost_limit») (listOf s) remaining (view best)) ⌝ }
@@ -262,7 +270,7 @@ fn dfs(
     if most == 0 {
         return b;
     }
-    let table = outputs::table_of(wanted, columns);
+    let table = outputs::table_of(task.controls, wanted, columns);
     let mut i = 0;
     while i < gates.len() {
         let g = gates[i];
@@ -395,6 +403,7 @@ fn limited_to(task: Task, limit: usize) -> Task
         wanted,
         outputs: task.outputs,
         free: task.free,
+        controls: task.controls,
         gate_limit: task.gate_limit,
         cost_limit: limit,
         depth_limit: task.depth_limit,
@@ -440,7 +449,7 @@ fn cheaper(
 
 // What every list of these gates has and costs at least.
 fn least_of(gates: &[u8], prices: &[u8], task: Task) -> Least
-    requires { ⌜ Width (task .outputs) ⌝ }
+    requires { ⌜ Fair task ⌝ }
     ensures { λ r. ⌜ Ready task r ⌝ }
     ensures { λ r. ⌜ ((P : Problem) (durations : List ℕ) → length (now (prices .entry)) ≡ length (now (gates .entry)) → Posed P task (now (gates .entry)) (now (prices .entry)) durations → Bounded P r) ⌝ }
 {
@@ -457,7 +466,7 @@ fn least_of(gates: &[u8], prices: &[u8], task: Task) -> Least
 // fewest gates; what that finds caps the costs to try.
 pub fn solve(gates: &[u8], prices: &[u8], durations: &[u8], task: Task) -> Best
     requires { ⌜ Slices (now gates) (now prices) (now durations) ⌝ }
-    requires { ⌜ Width (task .outputs) × (task .«gate_limit» ≤ 12) ⌝ }
+    requires { ⌜ Fair task × (task .«gate_limit» ≤ 12) ⌝ }
     ensures { λ r. ⌜ ((P : Problem) → Posed P task (now (gates .entry)) (now (prices .entry)) (now (durations .entry)) → Limited P task → view r ≡ firstGood P) ⌝ }
     ensures { λ r. ⌜ r .len ≤ 12 ⌝ }
 {

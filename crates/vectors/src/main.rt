@@ -20,6 +20,8 @@ fn main() {
     run_file(b"measuring");
     run_file(b"verifying");
     run_file(b"parity");
+    run_file(b"longer");
+    run_file(b"marked");
     run_file(b"search");
     run_file(b"lines");
 }

@@ -1,26 +1,28 @@
 -- Depth between its two bounds, for a job and a sound circuit of the same wires: never below the gates divided by the wires, rounded up,
 -- and never above the sum of durations. So are the measures that measuring answers.
 use mathlib.Core.Path.{_≡_, ap₂}
-use mathlib.Core.Bool.{true}
+use mathlib.Core.Bool.{Bool, true, false, false≢true}
 use mathlib.Core.List.{List}
 use Prim.Native.Nat.{ℕ, _+_, _*_, _≤_}
 use native.Mathlib.Omega.{arith}
 use borrow.Author.Tests.{eqb-true}
 use lib.Dec.{eqb}
 use lib.ListN.{length}
+use Rattle.logic.specs.Rules.{implies, pick}
 use Rattle.logic.specs.Lists.{allOf, total}
 use Rattle.logic.specs.Answers.{answered}
 use Rattle.logic.proofs.Answers.{answered-is}
 use Rattle.logic.proofs.Chain.{both-parts}
 use Rattle.gate.specs.Gates.{lawful}
+use Rattle.gate.proofs.Tables.{all-widen}
 use Rattle.circuit.specs.Measure.{depth}
 use Rattle.circuit.proofs.Prefix.{depth-most}
 use Rattle.circuit.proofs.Gatebound.{roundedUp, gates-by-depth, depth-least}
-use Rattle.record.specs.Jobs.{dataWires, ancillas, wires, durationOf, jobCode}
-use Rattle.record.specs.Circuits.{gates, circuitCode}
+use Rattle.record.specs.Jobs.{longer, mostControls, dataWires, ancillas, wires, durationOf, jobCode}
+use Rattle.record.specs.Circuits.{marked, controlsOf, gates, circuitCode}
 use Rattle.record.proofs.Kept.{sound-job, sound-circuit, wires-within}
 use Rattle.verify.specs.declared.Measures.{Measures}
-use Rattle.verify.specs.Calls.{measuresOf, measuresFor, sameWires, measureCode, measureOf}
+use Rattle.verify.specs.Calls.{measuresOf, measuresFor, sameWires, markFits, measureCode, measureOf}
 use Rattle.verify.proofs.Codes.{measure-parts}
 
 module _ (job c : List ℕ) where
@@ -30,17 +32,33 @@ module _ (job c : List ℕ) where
       let p = both-parts (eqb (dataWires job) (dataWires c)) (eqb (ancillas job) (ancillas c)) h in
       ap₂ _+_ (eqb-true (dataWires job) (dataWires c) (p .0)) (eqb-true (ancillas job) (ancillas c) (p .1))
 
-  module _ (hj : jobCode job ≡ 0) (hc : circuitCode c ≡ 0) (same : sameWires job c ≡ true) where
-    lawful-here : allOf (lawful 2 (wires job)) (gates c) ≡ true
-    lawful-here = rw (wires-same same) (sound-circuit c hc .kept)
+  -- a marked circuit may hold three controls, and so may the job's
+  no-more : markFits job c ≡ true → controlsOf c ≤ mostControls job
+  unfolding markFits
+  no-more = by-mark (marked c) (longer job)
+    where
+      by-mark : (a b : Bool) → implies a b ≡ true → pick a 3 2 ≤ pick b 3 2
+      by-mark true true h = omega arith
+      by-mark true false h = absurd (false≢true h)
+      by-mark false true h = omega arith
+      by-mark false false h = omega arith
+
+  module _ (hj : jobCode job ≡ 0) (hc : circuitCode c ≡ 0) (same : sameWires job c ≡ true) (fits : markFits job c ≡ true) where
+    lawful-here : allOf (lawful (mostControls job) (wires job)) (gates c) ≡ true
+    lawful-here =
+        rw (wires-same same)
+        (all-widen (controlsOf c) (wires c) (mostControls job) (wires c) (no-more fits) (omega arith) (gates c) (sound-circuit c hc .kept))
+
+    slow : (b : ℕ) → lawful (mostControls job) (wires job) b ≡ true → 1 ≤ durationOf job b
+    slow = sound-job job hj .slow (wires job)
 
     pub gates-bounded : length (gates c) ≤ wires job * depth (durationOf job) (gates c)
-    gates-bounded = gates-by-depth (durationOf job) (sound-job job hj .slow) (wires job) (wires-within job hj .1) (gates c) lawful-here
+    gates-bounded = gates-by-depth (durationOf job) (mostControls job) (wires job) slow (wires-within job hj .1) (gates c) lawful-here
 
     pub depth-lower : roundedUp (length (gates c)) (wires job) ≤ depth (durationOf job) (gates c)
     depth-lower =
         let w = wires-within job hj in
-        depth-least (durationOf job) (sound-job job hj .slow) (wires job) (w .1) (gates c) (omega arith) lawful-here
+        depth-least (durationOf job) (mostControls job) (wires job) slow (w .1) (gates c) (omega arith) lawful-here
 
   pub depth-upper : depth (durationOf job) (gates c) ≤ total (durationOf job) (gates c)
   depth-upper = depth-most (durationOf job) (gates c)
@@ -52,4 +70,4 @@ module _ (job c : List ℕ) where
   measured-bounds m h =
       let a = answered-is (measureCode job c) (measuresFor job c) m h in
       let p = measure-parts job c (a .0) in
-      rw (a .1) (depth-lower (p .0) (p .1 .0) (p .1 .1), depth-upper)
+      rw (a .1) (depth-lower (p .0) (p .1 .0) (p .1 .1 .0) (p .1 .1 .1), depth-upper)

@@ -12,9 +12,9 @@ use Rattle.logic.proofs.Chain.{and-then-zero, rule-kept}
 use Rattle.circuit.specs.Run.{forwards, backwards}
 use Rattle.circuit.proofs.Reversal.{stays, stays-back}
 use Rattle.record.specs.Jobs.{wires, jobCode}
-use Rattle.record.specs.Circuits.{gates, circuitCode}
+use Rattle.record.specs.Circuits.{controlsOf, gates, circuitCode}
 use Rattle.record.proofs.Kept.{sound-circuit, circuit-wires-within}
-use Rattle.verify.specs.Calls.{runCode, sameWires, measureCode}
+use Rattle.verify.specs.Calls.{runCode, sameWires, markFits, measureCode}
 
 module _ (c : List ℕ) where
   run-parts : (v : ℕ) → runCode c v ≡ 0 → (circuitCode c ≡ 0) × (v < 2 ^ wires c)
@@ -27,15 +27,17 @@ module _ (c : List ℕ) where
   pub ran-small : (forth : Bool) (v : ℕ) → runCode c v ≡ 0 → pick forth (forwards (gates c) v) (backwards (gates c) v) < 32
   ran-small true v h =
       let p = run-parts v h in
-      lt-of-lt-of-le (stays 2 (wires c) (gates c) v (sound-circuit c (p .0) .kept) (p .1)) (pow-mono (circuit-wires-within c (p .0) .1))
+      lt-of-lt-of-le (stays (controlsOf c) (wires c) (gates c) v (sound-circuit c (p .0) .kept) (p .1)) (pow-mono (circuit-wires-within c (p .0) .1))
   ran-small false v h =
       let p = run-parts v h in
-      lt-of-lt-of-le (stays-back 2 (wires c) (gates c) v (sound-circuit c (p .0) .kept) (p .1))
+      lt-of-lt-of-le (stays-back (controlsOf c) (wires c) (gates c) v (sound-circuit c (p .0) .kept) (p .1))
       (pow-mono (circuit-wires-within c (p .0) .1))
 
-pub measure-parts : (job c : List ℕ) → measureCode job c ≡ 0 → (jobCode job ≡ 0) × ((circuitCode c ≡ 0) × (sameWires job c ≡ true))
+pub measure-parts : (job c : List ℕ) → measureCode job c ≡ 0 → (jobCode job ≡ 0) × ((circuitCode c ≡ 0) × ((sameWires job c ≡ true) × (markFits job c ≡ true)))
 unfolding measureCode
 measure-parts job c h =
-    let p = and-then-zero (jobCode job) (andThen (circuitCode c) (rule (sameWires job c) 12 0)) h in
-    let q = and-then-zero (circuitCode c) (rule (sameWires job c) 12 0) (p .1) in
-    (p .0, (q .0, rule-kept (sameWires job c) 12 0 (lit< tt) (q .1) .0))
+    let rest = rule (sameWires job c) 12 (rule (markFits job c) 28 0) in
+    let p = and-then-zero (jobCode job) (andThen (circuitCode c) rest) h in
+    let q = and-then-zero (circuitCode c) rest (p .1) in
+    let k = rule-kept (sameWires job c) 12 (rule (markFits job c) 28 0) (lit< tt) (q .1) in
+    (p .0, (q .0, (k .0, rule-kept (markFits job c) 28 0 (lit< tt) (k .1) .0)))

@@ -15,7 +15,8 @@ use Rattle.table.specs.Rows.{agrees, clean}
 use Rattle.record.specs.Jobs.{dataWires, wires, freeLayout, gateLimit, costLimit, depthLimit, rows, jobCode}
 use Rattle.record.specs.Circuits.{layoutOf, gates, circuitCode}
 use Rattle.record.proofs.Eleven.{circuit-never, job-never}
-use Rattle.verify.specs.Calls.{runCode, runOf, measuresFor, sameWires, measureCode, measureOf, limitsCode, verifyRest, verifyCode, verifyOf}
+use Rattle.verify.specs.Calls.{runCode, runOf, measuresFor, sameWires, markFits, measureCode, measureOf}
+use Rattle.verify.specs.Calls.{limitsCode, verifyRest, verifyCode, verifyOf}
 
 pub run-never : (forth : Bool) (c : List ℕ) (v : ℕ) → runOf forth c v ≡ refused 11 → ⊥
 unfolding runOf runCode
@@ -29,7 +30,8 @@ module _ (job c : List ℕ) where
   measure-code-never =
       and-then-never 11 (jobCode job) _ (job-never job)
       (and-then-never 11 (circuitCode c) _ (circuit-never c)
-      (rule-never 11 (sameWires job c) 12 0 (λ e. omega arith) (λ e. omega arith)))
+      (rule-never 11 (sameWires job c) 12 _ (λ e. omega arith)
+      (rule-never 11 (markFits job c) 28 0 (λ e. omega arith) (λ e. omega arith))))
 
   limits-never : limitsCode job c ≡ 11 → ⊥
   unfolding limitsCode

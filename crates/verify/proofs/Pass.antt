@@ -1,5 +1,5 @@
--- Demand 2's sentence on the judge: a circuit passes for a job exactly when it has the job's wires and an allowed layout, and realizes
--- the table within all three limits.
+-- Demand 2's sentence on the judge: a circuit passes for a job exactly when it has the job's wires, no mark that the job has not, and
+-- an allowed layout, and realizes the table within all three limits.
 use mathlib.Core.Path.{_≡_, sym, ap, _∙_}
 use mathlib.Core.Logic.{_↔_}
 use mathlib.Core.List.{List}
@@ -39,8 +39,9 @@ module _ (job c : List ℕ) where
       record {
         job-sound = m .0;
         circuit-sound = m .1 .0;
-        same-data = eqb-true (dataWires job) (dataWires c) (both-left n a (m .1 .1));
-        same-ancillas = eqb-true (ancillas job) (ancillas c) (both-right n a (m .1 .1));
+        same-data = eqb-true (dataWires job) (dataWires c) (both-left n a (m .1 .1 .0));
+        same-ancillas = eqb-true (ancillas job) (ancillas c) (both-right n a (m .1 .1 .0));
+        mark-fits = m .1 .1 .1;
         laid-out = k₁ .0;
         realized = agrees-realizes (dataWires job) (rows job) (layoutOf c) (gates c) (k₂ .0) (k₃ .0);
         gates-within = leb-true (length (gates c)) (gateLimit job) (k₄ .0);
@@ -56,6 +57,7 @@ module _ (job c : List ℕ) where
         s .circuit-sound,
         eq-eqb (dataWires job) (dataWires c) (s .same-data),
         eq-eqb (ancillas job) (ancillas c) (s .same-ancillas),
+        s .mark-fits,
         s .laid-out,
         realizes-agrees (dataWires job) (rows job) (layoutOf c) (gates c) (s .realized),
         realizes-clean (dataWires job) (rows job) (layoutOf c) (gates c) (s .realized),

@@ -12,7 +12,7 @@ use Rattle.circuit.specs.Measure.{holdByte, idle, readyTimes, greatest}
 use Rattle.circuit.proofs.Times.{length-hold}
 use Rattle.circuit.proofs.Gatebound.{quiet-ready}
 use Rattle.record.specs.Jobs.{wires, priceOf, durationOf}
-use Rattle.record.specs.Circuits.{gates, circuitCode}
+use Rattle.record.specs.Circuits.{controlsOf, gates, circuitCode}
 use Rattle.record.proofs.Kept.{sound-circuit, circuit-wires-within}
 use Rattle.verify.specs.declared.Measures.{Measures}
 use Rattle.verify.specs.Calls.{measuresOf, measuresFor, readyOf, measureCode, measureOf, verifyCode, verifyOf}
@@ -41,7 +41,7 @@ module _ (job c : List ℕ) where
     greatest-ready = depth-is (priceOf job) (durationOf job) (gates c);
     lacking = λ i h.
         ap (λ (ts : List ℕ). getD ts i 0) (ready-is (priceOf job) (durationOf job) (gates c))
-        ∙ quiet-ready (durationOf job) (wires c) (circuit-wires-within c sound .1) (gates c) (sound-circuit c sound .kept) i h;
+        ∙ quiet-ready (durationOf job) (controlsOf c) (wires c) (circuit-wires-within c sound .1) (gates c) (sound-circuit c sound .kept) i h;
   }
 
   pub measured-ready : (m : Measures) → measureOf job c ≡ answered m → Timed (wires c) m

@@ -4,14 +4,14 @@ use mathlib.Core.List.{List, [], _∷_}
 use Prim.Native.Nat.{ℕ, _^_}
 use lib.Dec.{ltb, leb, eqb}
 use lib.ListN.{length, getD}
-use Rattle.logic.specs.Rules.{both, pick, rule, andThen}
+use Rattle.logic.specs.Rules.{both, implies, pick, rule, andThen}
 use Rattle.logic.specs.Answers.{Answer, refused, answered, answerOf}
 use Rattle.circuit.specs.Run.{forwards, backwards}
 use Rattle.circuit.specs.Measure.{cost, readyTimes, greatest}
 use Rattle.table.specs.Layouts.{allowed}
 use Rattle.table.specs.Rows.{agrees, clean}
-use Rattle.record.specs.Jobs.{dataWires, ancillas, wires, freeLayout, gateLimit, costLimit, depthLimit, priceOf, durationOf, rows, jobCode}
-use Rattle.record.specs.Circuits.{layoutOf, gates, circuitCode}
+use Rattle.record.specs.Jobs.{longer, dataWires, ancillas, wires, freeLayout, gateLimit, costLimit, depthLimit, priceOf, durationOf, rows, jobCode}
+use Rattle.record.specs.Circuits.{marked, layoutOf, gates, circuitCode}
 use Rattle.verify.specs.declared.Measures.{Measures}
 use Rattle.verify.specs.declared.Ran.{Ran}
 use Rattle.verify.specs.declared.Ran.the-variants.{Value}
@@ -70,9 +70,13 @@ measuresFor job c = measuresOf (priceOf job) (durationOf job) (gates c)
 unfoldable pub sameWires : List ℕ → List ℕ → Bool
 sameWires job c = both (eqb (dataWires job) (dataWires c)) (eqb (ancillas job) (ancillas c))
 
--- "the job's checks, the circuit's, then 12"
+-- "28 in judging and measuring, a marked circuit under a shorter job, directly after 12"
+unfoldable pub markFits : List ℕ → List ℕ → Bool
+markFits job c = implies (marked c) (longer job)
+
+-- "the job's checks, the circuit's, then 12", and 28
 unfoldable pub measureCode : List ℕ → List ℕ → ℕ
-measureCode job c = andThen (jobCode job) (andThen (circuitCode c) (rule (sameWires job c) 12 0))
+measureCode job c = andThen (jobCode job) (andThen (circuitCode c) (rule (sameWires job c) 12 (rule (markFits job c) 28 0)))
 
 unfoldable pub measureOf : List ℕ → List ℕ → Answer Measures
 measureOf job c = answerOf (measureCode job c) (measuresFor job c)

@@ -11,7 +11,7 @@ use Rattle.table.specs.Rows.{realizes}
 use Rattle.record.specs.Jobs.{dataWires, ancillas, freeLayout, gateLimit, costLimit, depthLimit, priceOf, durationOf, rows, jobCode}
 use Rattle.record.specs.Circuits.{layoutOf, gates, circuitCode}
 use Rattle.verify.specs.declared.Measures.{Measures}
-use Rattle.verify.specs.Calls.{readyOf}
+use Rattle.verify.specs.Calls.{readyOf, markFits}
 
 pub record Passes (job c : List ℕ) : Type 0 where
   -- "after the job's checks and then the circuit's"
@@ -20,6 +20,8 @@ pub record Passes (job c : List ℕ) : Type 0 where
   -- "same n and m"
   pub same-data : dataWires job ≡ dataWires c
   pub same-ancillas : ancillas job ≡ ancillas c
+  -- no "marked circuit under a shorter job"
+  pub mark-fits : markFits job c ≡ true
   -- "Placing allowed"
   pub laid-out : allowed (dataWires job) (freeLayout job) (layoutOf c) ≡ true
   -- "Table met", the ancilla at 0

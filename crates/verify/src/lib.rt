@@ -9,7 +9,8 @@ ghost use Rattle.circuit.specs.Measure.{weightOf};
 ghost use Rattle.record.specs.Jobs.{jobCode};
 ghost use Rattle.record.specs.Circuits.{circuitCode};
 ghost use Rattle.verify.specs.Calls.{ranAnswer, runCode, runOf, forwardsOf, backwardsOf};
-ghost use Rattle.verify.specs.Calls.{measuredAnswer, measuresWith, measuresOf, measuresFor, sameWires, measureCode, measureOf};
+ghost use Rattle.verify.specs.Calls.{measuredAnswer, measuresWith, measuresOf, measuresFor};
+ghost use Rattle.verify.specs.Calls.{sameWires, markFits, measureCode, measureOf};
 ghost use Rattle.verify.specs.Calls.{limitRules, limitsCode, verifyRest, verifyOf};
 
 // Gates, cost and depth, and the ready time of each of five wires: 0 for a wire that the circuit lacks.
@@ -115,13 +116,22 @@ fn same_wires(job: &[u8], c: &[u8]) -> bool
     )
 }
 
+// Whether the circuit is unmarked, or the job a longer one.
+fn mark_fits(job: &[u8], c: &[u8]) -> bool
+    ensures { λ r. ⌜ r ≡ markFits (now (job .entry)) (now (c .entry)) ⌝ }
+{
+    logic::implies(record::marked(c), record::longer(job))
+}
+
 fn measure_code(job: &[u8], c: &[u8]) -> u8
     ensures { λ r. ⌜ r ≡ measureCode (now (job .entry)) (now (c .entry)) ⌝ }
 {
     let code = record::job_code(job);
     let second = record::circuit_code(c);
-    let same = logic::rule(same_wires(job, c), 12, 0);
-    logic::and_then(code, logic::and_then(second, same))
+    let same = same_wires(job, c);
+    let fits = mark_fits(job, c);
+    let rest = logic::rule(same, 12, logic::rule(fits, 28, 0));
+    logic::and_then(code, logic::and_then(second, rest))
 }
 
 // The measures of a sound circuit at a job's prices and durations.

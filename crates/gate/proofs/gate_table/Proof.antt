@@ -18,17 +18,17 @@ turn : (gates table : List ℕ) (i g : ℕ) → i < length gates → i < length 
 turn gates table i g h k e hg = rw (add-one, take-suc-set table i g k, take-suc gates i 0 h, e, hg) refl
 
 abbrev Inv-loop : tie.InvT-loop
-Inv-loop w count table₀ i₀ table i = (i ≤ count) × ((length table ≡ 55) × (take i table ≡ take i (gatesFor 2 w)))
+Inv-loop k w count table₀ i₀ table i = (i ≤ count) × ((length table ≡ 75) × (take i table ≡ take i (gatesFor k w)))
 
 abbrev μ-loop : tie.MeasureT-loop
-μ-loop w count table₀ i₀ table i = count - i
+μ-loop k w count table₀ i₀ table i = count - i
 
 array-write-table : tie.Need-array-write-table Inv-loop μ-loop
 array-write-table c =
     let s = c .before .before .before .before in
     let h = c .before .loop-test .taken in
     let e = c .before .before .before .gate-count .ensures in
-    omega (arith, gates-most (s .args .w) (s .pre .0) (s .pre .1))
+    omega (arith, gates-most (s .args .k) (s .args .w) (s .pre .0 .1) (s .pre .1 .1))
 
 loop-again : tie.Need-loop-again Inv-loop μ-loop
 loop-again c =
@@ -37,11 +37,11 @@ loop-again c =
     let h = c .before .loop-test .taken in
     let e = p .before .gate-count .ensures in
     let l = p .loop .inv .1 .0 in
-    let q = gates-most (s .args .w) (s .pre .0) (s .pre .1) in (
+    let q = gates-most (s .args .k) (s .args .w) (s .pre .0 .1) (s .pre .1 .1) in (
       omega arith,
       (
         length-set (p .loop .table) (p .loop .i) (c .gate-at .result) ∙ l,
-        turn (gatesFor 2 (s .args .w)) (p .loop .table) (p .loop .i) (c .gate-at .result) (omega arith) (omega arith) (p .loop .inv .1 .1)
+        turn (gatesFor (s .args .k) (s .args .w)) (p .loop .table) (p .loop .i) (c .gate-at .result) (omega arith) (omega arith) (p .loop .inv .1 .1)
             (c .gate-at .ensures),
       ),
     )
@@ -53,8 +53,8 @@ returns c =
     let h = c .loop-test .left in
     let e = p .before .gate-count .ensures in
     let i = p .loop .inv in
-    let q : p .loop .i ≡ length (gatesFor 2 (s .args .w)) = let x = i .0 in omega arith in
-    rw q at (i .1 .1) ∙ take-length (gatesFor 2 (s .args .w))
+    let q : p .loop .i ≡ length (gatesFor (s .args .k) (s .args .w)) = let x = i .0 in omega arith in
+    rw q at (i .1 .1) ∙ take-length (gatesFor (s .args .k) (s .args .w))
 
 pub gate-table-spec : {M : Type 1} → statement M
 gate-table-spec =

@@ -38,8 +38,21 @@ returns-3 c =
     ∙ ap (λ (x : ℕ). bitXor (s .v) (x * 2 ^ (p .wide .result / 32))) (c .before .product .ensures .0 ∙ ap₂ _*_ first second))
 
 returns-4 : tie.Need-returns-4
-unfolding step
 returns-4 c =
+    let q = c .before .before .before .before .before in
+    let p = q .before .before .before .before .before in
+    let s = p .before .args in
+    let first = q .bit4 .ensures .0 ∙ ap (λ (a : ℕ). bitOf a (s .v)) (q .before .before .before .lowest3 .ensures .0) in
+    let second = c .before .before .before .before .bit5 .ensures .0 ∙ ap (λ (a : ℕ). bitOf a (s .v)) (q .before .before .middle .ensures .0) in
+    let third = c .before .before .bit6 .ensures .0 ∙ ap (λ (a : ℕ). bitOf a (s .v)) (q .before .highest2 .ensures) in
+    arm (s .b) (s .v) (p .wide .result) 3 (c .add4 .result) (p .wide .ensures) (omega arith) (q .before .before .before .before .match .keys4)
+    (c .add4 .ensures
+    ∙ ap (λ (x : ℕ). bitXor (s .v) (x * 2 ^ (p .wide .result / 32)))
+    (c .before .product3 .ensures .0 ∙ ap₂ _*_ (c .before .before .before .product2 .ensures .0 ∙ ap₂ _*_ first second) third))
+
+returns-5 : tie.Need-returns-5
+unfolding step
+returns-5 c =
     let p = c .before .before .before in
     let v = p .before .args .v in
     c .by-mask .ensures
@@ -49,4 +62,6 @@ pub step-spec : {M : Type 1} → statement M
 step-spec =
     tie.close (tie.spec (λ c κs. search needs) (λ c κs. search needs) (λ c κs. search needs) (λ c κs. search needs) (λ c κs. search needs)
     (λ c κs. search needs) (λ c κs. search needs) (λ c κs. search needs) (λ c κs. search needs) (λ c κs. search needs)
-    (λ c κs. search needs) (λ c κs. search needs) (λ c κs. search needs) returns returns-2 returns-3 returns-4)
+    (λ c κs. search needs) (λ c κs. search needs) (λ c κs. search needs) (λ c κs. search needs) (λ c κs. search needs) (λ c κs. search needs)
+    (λ c κs. search needs) (λ c κs. search needs) (λ c κs. search needs) (λ c κs. search needs) (λ c κs. search needs) (λ c κs. search needs)
+    returns returns-2 returns-3 returns-4 returns-5)

@@ -1,4 +1,5 @@
 -- With free layouts the data wires are asked one by one, with the fixed layout each output on its own wire.
+use mathlib.Core.Bool.{false}
 use mathlib.Core.Path.{ap, _∙_}
 use Prim.Native.Nat.{ℕ}
 use lib.Bits.{bitOr}
@@ -15,7 +16,7 @@ returns c =
     let s = c .before .before .before .before .before .before .before in
     let a = s .args in
     ap (λ x. bitOr x (bitOr (c .before .before .wire-hits2 .result) (bitOr (c .before .wire-hits3 .result) (c .wire-hits4 .result)))) (c .before .before .before .picked .ensures)
-    ∙ free-mendable (a .t) (a .t2) (a .n) (s .pre) (a .free) (c .before .before .before .before .before .if1 .taken) _ (c .before .before .before .before .before .before .products .ensures) _ _ _ _
+    ∙ free-mendable false (a .t) (a .t2) (a .n) (s .pre) (a .free) (c .before .before .before .before .before .if1 .taken) _ (c .before .before .before .before .before .before .products .ensures) _ _ _ _
     (c .wire-hits4 .ensures) (c .before .wire-hits3 .ensures) (c .before .before .wire-hits2 .ensures) (c .before .before .before .before .wire-hits .ensures)
 
 returns-2 : tie.Need-returns-2
@@ -26,7 +27,7 @@ returns-2 c =
     c .row-hits .ensures
     ∙ (λ i. bit (rowHits (c .before .before .before .before .before .before .before .before .before .before .before .before .products .result) (a .t .care) (c .before .before .before .before .before .before .before .before .before .others .ensures i) (c .before .before .before .before .before .before .before .before .misses .ensures i)
     (c .before .before .before .before .before .before .before .others2 .ensures i) (c .before .before .before .before .before .before .misses2 .ensures i) (c .before .before .before .before .before .others3 .ensures i) (c .before .before .before .before .misses3 .ensures i) (c .before .before .before .others4 .ensures i) (last i)))
-    ∙ ap bit (fixed-mendable (a .t) (a .t2) (a .n) (s .pre) (a .free) (c .before .before .before .before .before .before .before .before .before .before .before .if1 .left) _ (c .before .before .before .before .before .before .before .before .before .before .before .before .products .ensures))
+    ∙ ap bit (fixed-mendable false (a .t) (a .t2) (a .n) (s .pre) (a .free) (c .before .before .before .before .before .before .before .before .before .before .before .if1 .left) _ (c .before .before .before .before .before .before .before .before .before .before .before .before .products .ensures))
 
 pub mendable-spec : {M : Type 1} → statement M
 mendable-spec =

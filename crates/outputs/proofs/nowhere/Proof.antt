@@ -14,7 +14,7 @@ returns c =
     let s = c .before .before .before .before .before in
     let a = s .args in
     let e = ap (λ (x : ℕ). bitAnd x (bitAnd (c .before .before .misses-one2 .result) (bitAnd (c .before .misses-one3 .result) (c .misses-one4 .result)))) (c .before .before .before .picked .ensures)
-    ∙ missed-each (a .t) (a .t2) (a .n) (s .pre) (a .j) _ _ _ _ (c .misses-one4 .ensures .0 (a .t2) 0 refl) (c .before .misses-one3 .ensures .0 (a .t2) 1 refl)
+    ∙ missed-each (a .n) (s .pre) (a .t) (a .t2) (a .j) _ _ _ _ (c .misses-one4 .ensures .0 (a .t2) 0 refl) (c .before .misses-one3 .ensures .0 (a .t2) 1 refl)
     (c .before .before .misses-one2 .ensures .0 (a .t2) 2 refl) (c .before .before .before .before .misses-one .ensures .0 (a .t2) 3 refl) in
     (e, rw e (bit-le (allBelow (a .n) (λ w. missed (a .t) (a .t2) w (a .j)))))
 

@@ -4,20 +4,19 @@ use lib.ListN.{length, set}
 use lib.Seq.{getD-set-same}
 use Rattle.gate.specs.Gates.{targetOf, gateOf}
 use Rattle.gate.specs.Inner.{columnStep}
-use Rattle.gate.proofs.Widen.{parts}
 use borrow.Author.Needs.{needs}
 use Rattle.outputs.proofs.step.Statement.{statement}
 use Rattle.outputs.proofs.step.Tie as tie
 
 returns : tie.Need-returns
 unfolding columnStep gateOf
-returns c t e =
+returns c k t hk hg e =
     let s = c .before .before .before in
     let l : length (s .args .columns) ≡ 5 = search needs in
-    let h = parts 2 5 (s .args .g) (s .pre .1) .target in
+    let h = s .pre .1 in
     c .with-cell .ensures
     ∙ ap (set (s .args .columns) (targetOf (s .args .g)))
-    (c .before .next-column .ensures t (s .args .columns) l e ∙ getD-set-same (s .args .columns) (targetOf (s .args .g)) _ 0 (omega arith))
+    (c .before .next-column .ensures k t (s .args .columns) hk hg l e ∙ getD-set-same (s .args .columns) (targetOf (s .args .g)) _ 0 (omega arith))
 
 pub step-spec : {M : Type 1} → statement M
 step-spec = tie.close (tie.spec (λ c. search needs) (λ c κs. search needs) (λ c κs. search needs) returns)

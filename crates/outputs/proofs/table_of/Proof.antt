@@ -1,20 +1,26 @@
 -- The products, values and cares, each at its place of the table.
 use borrow.Author.Needs.{needs}
-use mathlib.Core.Path.{ap, _∙_}
+use mathlib.Core.Path.{ap₂, _∙_}
+use mathlib.Core.List.{List}
+use Prim.Native.Nat.{ℕ}
 use Rattle.outputs.proofs.Planned.{atMasks, at-masks}
 use Rattle.outputs.proofs.table_of.Statement.{statement}
 use Rattle.outputs.proofs.table_of.Tie as tie
 
 returns : tie.Need-returns
 returns c =
-    let s = c .before .before .before .args in
-    ap (λ ps. atMasks ps (s .t .value) (s .t .care)) (c .before .before .products .ensures) ∙ at-masks (s .t) (s .columns)
+    let w = c .before .before in
+    let s = w .before .before in
+    ap₂ (λ (ps qs : List ℕ). atMasks ps qs (s .args .t .value) (s .args .t .care)) (w .before .products .ensures) (w .wider .ensures)
+    ∙ at-masks (s .args .controls) (s .pre) (s .args .t) (s .args .columns)
 
 pub table-of-spec : {M : Type 1} → statement M
 table-of-spec =
     tie.close
-    (tie.spec (λ c κs. search needs) (λ c. search needs) (λ c. search needs) (λ c. search needs) (λ c. search needs) (λ c. search needs)
+    (tie.spec (λ c κs. search needs) (λ c κs. search needs) (λ c. search needs) (λ c. search needs) (λ c. search needs) (λ c. search needs)
     (λ c. search needs) (λ c. search needs) (λ c. search needs) (λ c. search needs) (λ c. search needs) (λ c. search needs)
     (λ c. search needs) (λ c. search needs) (λ c. search needs) (λ c. search needs) (λ c. search needs) (λ c. search needs)
     (λ c. search needs) (λ c. search needs) (λ c. search needs) (λ c. search needs) (λ c. search needs) (λ c. search needs)
-    (λ c. search needs) returns)
+    (λ c. search needs) (λ c. search needs) (λ c. search needs) (λ c. search needs) (λ c. search needs) (λ c. search needs)
+    (λ c. search needs) (λ c. search needs) (λ c. search needs) (λ c. search needs) (λ c. search needs) (λ c. search needs)
+    returns)

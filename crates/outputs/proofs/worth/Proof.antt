@@ -5,16 +5,16 @@ use Rattle.outputs.proofs.worth.Statement.{statement}
 use Rattle.outputs.proofs.worth.Tie as tie
 
 returns : tie.Need-returns
-returns c t cs hl ht hp =
+returns c k t cs hk hg hl ht hp =
     let s = c .before .before .before in
     worth-size t cs (s .args .n) (s .args .free) (s .args .g) (s .args .reach) (s .pre .1 .1) (s .pre .1 .0) (s .args .plan) hp (c .if1 .taken)
 
 returns-2 : tie.Need-returns-2
-returns-2 c t cs hl ht hp =
+returns-2 c k t cs hk hg hl ht hp =
     let s = c .before .before .before .before .before .before in
     rw (c .mends .ensures)
     (worth-mends t cs (s .args .n) (s .args .free) (s .args .g) (s .args .reach) (s .pre .1 .1) (s .pre .1 .0) (s .args .plan) hp
-    (c .before .before .before .if1 .left) (s .args .table .now) ht (c .before .before .next-column .result) (c .before .before .next-column .ensures t cs hl ht))
+    (c .before .before .before .if1 .left) k (s .args .table .now) ht (c .before .before .next-column .result) (c .before .before .next-column .ensures k t cs hk hg hl ht))
 
 pub worth-spec : {M : Type 1} → statement M
 worth-spec =

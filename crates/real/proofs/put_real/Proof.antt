@@ -7,7 +7,7 @@ use Rattle.record.proofs.Kept.{sound-circuit}
 use Rattle.text.proofs.Pieces.{more}
 use Rattle.rendering.specs.Parts.{headingFor}
 use Rattle.rendering.proofs.Lines.{over-length}
-use Rattle.real.proofs.Texts.{text-parts, text-length, lawful-five}
+use Rattle.real.proofs.Texts.{text-parts, text-length, code-sound, lawful-five}
 use borrow.Author.Needs.{needs}
 use Rattle.real.proofs.put_real.Statement.{statement}
 use Rattle.real.proofs.put_real.Tie as tie
@@ -25,7 +25,7 @@ put-heading-requires c κs =
     let a = c .before in
     let d = a .before in
     let s = start d in
-    let k = sound-circuit (s .args .circuit .now) (s .pre .0) in
+    let k = sound-circuit (s .args .circuit .now) (code-sound (s .args .circuit .now) (s .pre .0)) in
     let h = s .pre .1 in
     ((rw (d .data-wires .ensures .0) (k .width), rw (a .ancillas .ensures) (k .spare)), omega (arith, ap length (same a), text-length (s .args .circuit .now)))
 

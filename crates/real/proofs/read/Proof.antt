@@ -1,5 +1,6 @@
 -- Three refusals, and a record written to the start of the buffer.
 use mathlib.Core.Path.{_≡_, sym, ap, _∙_}
+use mathlib.Core.Bool.{false}
 use mathlib.Core.List.{List}
 use Prim.Native.Nat.{ℕ, _+_, _≤_}
 use native.Mathlib.Omega.{arith}
@@ -69,9 +70,9 @@ returns-4 c =
     let k = code-answered r (outcomeOf (parse (text s))) (p .parse .ensures) (e .if3 .left) in
     let n = k .0 .1 in
     let g : length (r .gates) ≡ 12 = twelve (e .before) in
-    let found : readOf (text s) (length (answer s)) ≡ answered (circuitBytes (r .n) (r .m) (l .plain .result) (take (r .count) (r .gates)))
-    = own p ∙ k .1 ∙ ap (λ (q : ℕ). answered (circuitBytes (r .n) (r .m) q (take (r .count) (r .gates)))) (sym (l .plain .ensures)) in
-    let z = record-size (r .n) (r .m) (l .plain .result) (r .gates) (r .count) (omega arith) in
+    let found : readOf (text s) (length (answer s)) ≡ answered (circuitBytes (r .n) (r .m) false (l .plain .result) (take (r .count) (r .gates)))
+    = own p ∙ k .1 ∙ ap (λ (q : ℕ). answered (circuitBytes (r .n) (r .m) false q (take (r .count) (r .gates)))) (sym (l .plain .ensures)) in
+    let z = record-size (r .n) (r .m) false (l .plain .result) (r .gates) (r .count) (omega arith) in
     let v = w .write-record .ensures .0 in
     (told found (w .write-record .result) (v ∙ z), (omega arith, wrote found (3 + r .count) z (answer s) _ (w .write-record .ensures .1)))
 

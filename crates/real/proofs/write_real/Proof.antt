@@ -5,8 +5,7 @@ use Prim.Native.Nat.{ℕ, _≤_}
 use native.Mathlib.Omega.{arith}
 use lib.ListN.{length}
 use Rattle.revlib.specs.Writing.{Reply, textOf, textCode, lengthOf, filled}
-use Rattle.revlib.proofs.RoundTrip.{text-short}
-use Rattle.real.proofs.Texts.{code-sound, not-written, no-room, told, wrote}
+use Rattle.real.proofs.Texts.{code-sound, text-small, not-written, no-room, told, wrote}
 use borrow.Author.Needs.{needs}
 use Rattle.real.proofs.write_real.Statement.{statement}
 use Rattle.real.proofs.write_real.Tie as tie
@@ -36,7 +35,7 @@ returns-2 c =
     let l = s .args .circuit .now in
     let e = no-room l (s .args .out .now) (kept f) _ (z .text-size .ensures) (c .if2 .taken) in
     let n = z .text-size .ensures in
-    (sym (ap lengthOf e), (omega (arith, text-short l (code-sound l (kept f))), sym (ap (λ (o : Reply (List ℕ)). filled o (s .args .out .now)) e)))
+    (sym (ap lengthOf e), (omega (arith, text-small l (kept f)), sym (ap (λ (o : Reply (List ℕ)). filled o (s .args .out .now)) e)))
 
 put-real-requires : tie.Need-put-real-requires
 put-real-requires c κs =
@@ -44,7 +43,7 @@ put-real-requires c κs =
     let f = z .before in
     let s = start (f .before) in
     let n = z .text-size .ensures in
-    (code-sound (s .args .circuit .now) (kept f), omega arith)
+    (kept f, omega arith)
 
 returns-3 : tie.Need-returns-3
 returns-3 c =
@@ -57,7 +56,7 @@ returns-3 c =
     let n = z .text-size .ensures in
     let h : length (textOf l) ≤ length o = omega arith in
     let v = w .put-real .ensures in
-    (told l o (kept f) h _ _ v, (omega (arith, v .size, text-short l (code-sound l (kept f))), wrote l o (kept f) h _ _ v))
+    (told l o (kept f) h _ _ v, (omega (arith, v .size, text-small l (kept f)), wrote l o (kept f) h _ _ v))
 
 pub write-real-spec : {M : Type 1} → statement M
 write-real-spec =

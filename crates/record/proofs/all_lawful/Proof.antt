@@ -12,10 +12,10 @@ use Rattle.record.proofs.all_lawful.Statement.{statement}
 use Rattle.record.proofs.all_lawful.Tie as tie
 
 abbrev Inv-loop : tie.InvT-loop
-Inv-loop w list i₀ i = (i ≤ length list) × (allOf (lawful 2 w) (drop i list) ≡ allOf (lawful 2 w) list)
+Inv-loop k w list i₀ i = (i ≤ length list) × (allOf (lawful k w) (drop i list) ≡ allOf (lawful k w) list)
 
 abbrev μ-loop : tie.MeasureT-loop
-μ-loop w list i₀ i = length list - i
+μ-loop k w list i₀ i = length list - i
 
 loop-holds : tie.Need-loop-holds Inv-loop μ-loop
 loop-holds c = (search needs, refl)
@@ -24,7 +24,7 @@ returns : tie.Need-returns Inv-loop μ-loop
 returns c =
     let p = c .before .before .before .before in
     let s = p .before .before in
-    all-stop (lawful 2 (s .args .w)) (s .args .list .now) (p .loop .i) 0 (p .loop .inv .1) (omega arith)
+    all-stop (lawful (s .args .k) (s .args .w)) (s .args .list .now) (p .loop .i) 0 (p .loop .inv .1) (omega arith)
     (sym (c .before .lawful .ensures) ∙ not-true _ (c .if1 .taken))
 
 loop-again : tie.Need-loop-again Inv-loop μ-loop
@@ -32,7 +32,7 @@ loop-again c =
     let p = c .before .before .before .before in
     let s = p .before .before in (
       omega arith,
-      all-step (lawful 2 (s .args .w)) (s .args .list .now) (p .loop .i) 0 (p .loop .inv .1) (omega arith)
+      all-step (lawful (s .args .k) (s .args .w)) (s .args .list .now) (p .loop .i) 0 (p .loop .inv .1) (omega arith)
           (sym (c .before .lawful .ensures) ∙ not-false _ (c .if1 .left)),
     )
 
@@ -40,7 +40,7 @@ returns-2 : tie.Need-returns-2 Inv-loop μ-loop
 returns-2 c =
     let p = c .before in
     let s = p .before .before in
-    all-end (lawful 2 (s .args .w)) (s .args .list .now) (p .loop .i) 0 (p .loop .inv .1) (omega arith)
+    all-end (lawful (s .args .k) (s .args .w)) (s .args .list .now) (p .loop .i) 0 (p .loop .inv .1) (omega arith)
 
 pub all-lawful-spec : {M : Type 1} → statement M
 all-lawful-spec =

@@ -6,7 +6,9 @@ use Rattle.record.proofs.gates_ok.Statement.{statement}
 use Rattle.record.proofs.gates_ok.Tie as tie
 
 returns : tie.Need-returns
-returns c = c .all-lawful .ensures ∙ (λ i. allOf (lawful 2 (c .before .before .wires .ensures .0 i)) (c .before .gate-list .ensures i))
+returns c =
+    let k = c .before .before .before .controls-of .ensures in
+    c .all-lawful .ensures ∙ (λ i. allOf (lawful (k i) (c .before .before .wires .ensures .0 i)) (c .before .gate-list .ensures i))
 
 pub gates-ok-spec : {M : Type 1} → statement M
-gates-ok-spec = tie.close (tie.spec (λ c κs. search needs) (λ c κs. search needs) (λ c κs. search needs) returns)
+gates-ok-spec = tie.close (tie.spec (λ c κs. search needs) (λ c κs. search needs) (λ c κs. search needs) (λ c κs. search needs) returns)

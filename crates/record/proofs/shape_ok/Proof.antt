@@ -1,5 +1,5 @@
 use mathlib.Core.Path.{_∙_, ap₂}
-use Prim.Native.Nat.{_%_}
+use Prim.Native.Nat.{_/_, _%_}
 use borrow.Author.Needs.{needs}
 use lib.Dec.{leb, eqb}
 use Rattle.logic.specs.Rules.{both, either}
@@ -14,7 +14,7 @@ returns c =
     let width = c .before .either .ensures ∙ (λ i. either (eqb (n i) 3) (eqb (n i) 4)) in
     let rest = c .before .before .both .ensures
     ∙ (λ i. both (leb (c .before .before .before .before .ancillas .ensures i) 1)
-    (eqb (c .before .before .before .at .ensures i % 8) 0)) in
+    (eqb (c .before .before .before .at .ensures i / 2 % 4) 0)) in
     c .both2 .ensures ∙ ap₂ both width rest
 
 pub shape-ok-spec : {M : Type 1} → statement M

@@ -13,7 +13,7 @@ use Rattle.rendering.proofs.body_size.Tie as tie
 
 abbrev Inv-loop : tie.InvT-loop
 Inv-loop gates size₀ i₀ size i =
-    (i ≤ length gates) × ((size ≤ 5 + 9 * i) × (size + length (body (map lineFor (drop i gates))) ≡ 5 + length (body (map lineFor gates))))
+    (i ≤ length gates) × ((size ≤ 5 + 11 * i) × (size + length (body (map lineFor (drop i gates))) ≡ 5 + length (body (map lineFor gates))))
 
 abbrev μ-loop : tie.MeasureT-loop
 μ-loop gates size₀ i₀ size i = length gates - i

@@ -1,7 +1,7 @@
 use mathlib.Core.Path.{ap}
 use native.Mathlib.Omega.{arith}
 use lib.ListN.{length}
-use Rattle.rendering.proofs.Lines.{line-not, line-cnot, line-toffoli}
+use Rattle.rendering.proofs.Lines.{line-not, line-cnot, line-toffoli, line-cccnot}
 use borrow.Author.Needs.{needs}
 use Rattle.rendering.proofs.line_size.Statement.{statement}
 use Rattle.rendering.proofs.line_size.Tie as tie
@@ -15,7 +15,10 @@ returns-2 c = (ap length (line-cnot (c .before .before .before .args .b) _ (c .b
 returns-3 : tie.Need-returns-3
 returns-3 c = (ap length (line-toffoli (c .before .before .before .args .b) _ (c .before .before .decode .ensures) _ _ (c .enum-told3 .given .1)), omega arith)
 
+returns-4 : tie.Need-returns-4
+returns-4 c = (line-cccnot (c .before .before .before .args .b) _ (c .before .before .decode .ensures) _ _ _ (c .enum-told4 .given .1), omega arith)
+
 pub line-size-spec : {M : Type 1} → statement M
 line-size-spec =
     tie.close
-    (tie.spec (λ c κs. search needs) (λ c. search needs) (λ c. search needs) (λ c. search needs) returns returns-2 returns-3)
+    (tie.spec (λ c κs. search needs) (λ c. search needs) (λ c. search needs) (λ c. search needs) (λ c. search needs) returns returns-2 returns-3 returns-4)

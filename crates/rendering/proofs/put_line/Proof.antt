@@ -2,7 +2,7 @@
 use mathlib.Core.Path.{ap}
 use native.Mathlib.Omega.{arith}
 use lib.ListN.{length}
-use Rattle.rendering.proofs.Lines.{line-not, line-cnot, line-toffoli, target-lt, cnot-lt, toffoli-lt}
+use Rattle.rendering.proofs.Lines.{line-not, line-cnot, line-toffoli, target-lt, cnot-lt, toffoli-lt, no-cccnot}
 use borrow.Author.Needs.{needs}
 use Rattle.rendering.proofs.put_line.Statement.{statement}
 use Rattle.rendering.proofs.put_line.Tie as tie
@@ -85,9 +85,15 @@ returns-3 c =
     let s = d .before .before in
     rw (← line-toffoli (s .args .b) _ (d .decode .ensures) _ _ (k .k2 .given .1), ← l .letter .ensures, ← a .letter3 .ensures, ← e .letter4 .ensures) (w .put-text3 .ensures)
 
+returns-4 : tie.Need-returns-4
+returns-4 c =
+    let d = c .before .before .before in
+    let s = d .before .before in
+    absurd (no-cccnot (s .args .b) _ (d .decode .ensures) (s .pre .0) _ _ _ (c .enum-told2 .given .1))
+
 pub put-line-spec : {M : Type 1} → statement M
 put-line-spec =
     tie.close
     (tie.spec (λ c κs. search needs) letter-requires (λ c. search needs) (λ c. search needs) put-text-requires (λ c. search needs)
     letter-requires-2 (λ c. search needs) put-text-requires-2 (λ c. search needs) letter-requires-3 letter-requires-4 (λ c. search needs)
-    put-text-requires-3 (λ c. search needs) returns (λ c. search needs) returns-2 (λ c. search needs) returns-3)
+    put-text-requires-3 (λ c. search needs) (λ c. search needs) returns (λ c. search needs) returns-2 (λ c. search needs) returns-3 returns-4)

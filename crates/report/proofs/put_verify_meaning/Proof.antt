@@ -36,13 +36,18 @@ returns-7 c = let p = c .before .before in rw (p .before .before .before .match 
 
 returns-8 : tie.Need-returns-8
 unfolding said verifyMeaning
-returns-8 c =
+returns-8 c = let p = c .before .before in rw (p .before .before .before .match .keys8) (p .put-text8 .ensures)
+
+returns-9 : tie.Need-returns-9
+unfolding said verifyMeaning
+returns-9 c =
     let p = c .before .before in
     let m = p .before .before in
     let x = m .before .before .args .code in
     let r = m .match .rest in
     rw (
-      ne-eqb x 12 (r .0 .0 .0 .0 .0 .0 .1),
+      ne-eqb x 12 (r .0 .0 .0 .0 .0 .0 .0 .1),
+      ne-eqb x 28 (r .0 .0 .0 .0 .0 .0 .1),
       ne-eqb x 15 (r .0 .0 .0 .0 .0 .1),
       ne-eqb x 16 (r .0 .0 .0 .0 .1),
       ne-eqb x 24 (r .0 .0 .0 .1),
@@ -54,8 +59,4 @@ returns-8 c =
 
 pub put-verify-meaning-spec : {M : Type 1} → statement M
 put-verify-meaning-spec =
-    tie.close (tie.spec (λ c. refl) (λ c κs. omega arith) (λ c. refl) (λ c κs. omega arith) (λ c. refl) (λ c κs. omega arith)
-    (λ c. refl) (λ c κs. omega arith) (λ c. refl) (λ c κs. omega arith) (λ c. refl) (λ c κs. omega arith) (λ c. refl)
-    (λ c κs. omega arith) (λ c κs. omega arith) (λ c. search needs) returns (λ c. search needs) returns-2 (λ c. search needs) returns-3
-    (λ c. search needs) returns-4 (λ c. search needs) returns-5 (λ c. search needs) returns-6 (λ c. search needs) returns-7
-    (λ c. search needs) returns-8)
+    tie.close (tie.spec (λ c. refl) (λ c κs. omega arith) (λ c. refl) (λ c κs. omega arith) (λ c. refl) (λ c κs. omega arith) (λ c. refl) (λ c κs. omega arith) (λ c. refl) (λ c κs. omega arith) (λ c. refl) (λ c κs. omega arith) (λ c. refl) (λ c κs. omega arith) (λ c. refl) (λ c κs. omega arith) (λ c κs. omega arith) (λ c. search needs) returns (λ c. search needs) returns-2 (λ c. search needs) returns-3 (λ c. search needs) returns-4 (λ c. search needs) returns-5 (λ c. search needs) returns-6 (λ c. search needs) returns-7 (λ c. search needs) returns-8 (λ c. search needs) returns-9)

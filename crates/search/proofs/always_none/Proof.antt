@@ -9,10 +9,15 @@ use Rattle.search.proofs.always_none.Tie as tie
 returns : tie.Need-returns
 unfolding alwaysNone
 returns c =
-    let bare = c .before .before .both .ensures ∙ (λ i. both (eqb (c .before .before .before .before .data-wires .ensures .0 i) 4) (eqb (c .before .before .before .ancillas .ensures i) 0)) in
-    c .both2 .ensures ∙ ap₂ both bare (c .before .odd-table .ensures)
+    let o = c .before in
+    let m = o .before .before in
+    let b = m .before in
+    let bare = b .both .ensures ∙ (λ i. both (eqb (b .before .before .data-wires .ensures .0 i) 4) (eqb (b .before .ancillas .ensures i) 0)) in
+    let odd = o .both2 .ensures ∙ (λ i. both (eqb (m .most-controls .ensures i) 2) (o .before .odd-table .ensures i)) in
+    c .both3 .ensures ∙ ap₂ both bare odd
 
 pub always-none-spec : {M : Type 1} → statement M
 always-none-spec =
     tie.close
-    (tie.spec (λ c κs. search needs) (λ c κs. search needs) (λ c κs. search needs) (λ c κs. search needs) (λ c κs. search needs) returns)
+    (tie.spec (λ c κs. search needs) (λ c κs. search needs) (λ c κs. search needs) (λ c κs. search needs) (λ c κs. search needs)
+    (λ c κs. search needs) (λ c κs. search needs) returns)

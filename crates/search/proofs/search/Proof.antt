@@ -42,7 +42,7 @@ returns-2 c =
 write-record-requires : tie.Need-write-record-requires
 unfolding ancillas
 write-record-requires c κs =
-    let a = c .before in
+    let a = c .before .before in
     let e = a .ancillas .ensures in
     let g = a .before .before .before .before .before .before in
     let s = g .before .before .before .before .before in
@@ -55,7 +55,8 @@ long c = search needs
 returns-3 : tie.Need-returns-3
 returns-3 c =
     let w = c .before .before in
-    let a = w .before .before in
+    let q = w .before .before in
+    let a = q .before in
     let d = a .before in
     let m = d .before in
     let g = m .before .before .before .before in
@@ -65,9 +66,9 @@ returns-3 c =
     let n = g .first-good .ensures .1 in
     let e
     = reached (s .args .job .now) (length (s .args .answer .now)) (kept (g .before)) b (g .first-good .ensures .0) (d .data-wires .result)
-    (a .ancillas .result) (d .data-wires .ensures .0) (a .ancillas .ensures) (not-false _ (m .before .before .if2 .left)) in
+    (a .ancillas .result) (q .longer .result) (d .data-wires .ensures .0) (a .ancillas .ensures) (q .longer .ensures) (not-false _ (m .before .before .if2 .left)) in
     let v = w .write-record .ensures .0 in
-    let z = record-size (d .data-wires .result) (a .ancillas .result) (b .layout) (b .path) (b .len) (omega arith) in
+    let z = record-size (d .data-wires .result) (a .ancillas .result) (q .longer .result) (b .layout) (b .path) (b .len) (omega arith) in
     let k = w .write-record .result in (
       ap (λ (x : Measures). answered (record { size = k; measures = x })) (m .measures-of .ensures) ∙ told e k (v ∙ z),
       (omega arith, wrote e (3 + b .len) z (s .args .answer .now) _ (w .write-record .ensures .1)),
@@ -77,4 +78,4 @@ pub search-spec : {M : Type 1} → statement M
 search-spec =
     tie.close
     (tie.spec (λ c κs. search needs) returns first-good-requires returns-2 (λ c κs. search needs) (λ c κs. search needs)
-    (λ c κs. search needs) write-record-requires (λ c. search needs) returns-3)
+    (λ c κs. search needs) (λ c κs. search needs) write-record-requires (λ c. search needs) returns-3)

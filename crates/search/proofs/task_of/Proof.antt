@@ -12,12 +12,13 @@ wanted-of-requires c κs = let s = c .before .before in rw (c .table .ensures) (
 returns : tie.Need-returns
 unfolding taskOf
 returns c =
-    let w = c .before .before .before .before .before in
+    let w = c .before .before .before .before .before .before in
     let wanted = w .wanted-of .ensures ∙ ap wantedOf (w .before .table .ensures) in
     λ i. record {
       wanted = wanted i;
-      outputs = c .before .before .before .before .data-wires .ensures .0 i;
-      free = c .before .before .before .free-layout .ensures i;
+      outputs = c .before .before .before .before .before .data-wires .ensures .0 i;
+      free = c .before .before .before .before .free-layout .ensures i;
+      controls = c .before .before .before .most-controls .ensures i;
       «gate_limit» = c .before .before .gate-limit .ensures i;
       «cost_limit» = c .before .cost-limit .ensures i;
       «depth_limit» = c .depth-limit .ensures i;
@@ -26,4 +27,4 @@ returns c =
 pub task-of-spec : {M : Type 1} → statement M
 task-of-spec =
     tie.close (tie.spec (λ c κs. search needs) wanted-of-requires (λ c κs. search needs) (λ c κs. search needs) (λ c κs. search needs)
-    (λ c κs. search needs) (λ c κs. search needs) returns)
+    (λ c κs. search needs) (λ c κs. search needs) (λ c κs. search needs) returns)

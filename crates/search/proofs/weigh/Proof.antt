@@ -25,7 +25,7 @@ turn ws gates table i w h before e j k = by-place (ℕ-discrete j i)
     by-place (no n) = getD-set-other table i j w 0 n ∙ before j (omega arith)
 
 abbrev Inv-loop : tie.InvT-loop
-Inv-loop weights gates table₀ i₀ table i = (i ≤ length gates) × ((length table ≡ 55) × Weighed weights gates table i)
+Inv-loop weights gates table₀ i₀ table i = (i ≤ length gates) × ((length table ≡ 75) × Weighed weights gates table i)
 
 abbrev μ-loop : tie.MeasureT-loop
 μ-loop weights gates table₀ i₀ table i = length gates - i

@@ -15,7 +15,7 @@ use lib.ListN.{length, getD}
 use Rattle.logic.specs.Rules.{either}
 use Rattle.logic.proofs.Chain.{either-cases}
 use Rattle.logic.proofs.Members.{member-at}
-use Rattle.gate.specs.Gates.{lawful}
+use Rattle.gate.specs.Gates.{targetOf}
 use Rattle.choice.specs.Choices.{Choice, improve, below}
 use Rattle.choice.specs.Inner.{view}
 use Rattle.choice.proofs.First.{improve-append}
@@ -140,8 +140,8 @@ module _ (t : ℕ) (p : dfs-lts.At-loop (callees t) (dfs-at t) dfs.Post dfs-Inv-
     duration = getD (start .args .durations .now) (p .loop .i) 0;
   }
 
-  tried-lawful : lawful 2 5 (entry .gate) ≡ true
-  tried-lawful = start .pre .1 .0 .known (p .loop .i) index
+  tried-target : targetOf (entry .gate) < 5
+  tried-target = start .pre .1 .0 .known (p .loop .i) index
 
   some-left : 1 ≤ remaining
   some-left = let a = p .before .before .before .before .before .before .before .before .before .before .before .affordable .ensures .0 in let m = p .loop .inv .1 .0 in omega arith
@@ -149,7 +149,7 @@ module _ (t : ℕ) (p : dfs-lts.At-loop (callees t) (dfs-at t) dfs.Post dfs-Inv-
   room : node .len < 12
   room = let r = some-left in let h = start .pre .1 .1 .1 .0 .0 in omega arith
 
-  abbrev table-is : p .before .table-of .result ≡ tableOf (task .wanted) (node .columns)
+  abbrev table-is : p .before .table-of .result ≡ tableOf (task .controls) (task .wanted) (node .columns)
   table-is = p .before .table-of .ensures
 
   module _ (P : Problem) (posed : Posed P task (start .args .gates .now) (start .args .prices .now) (start .args .durations .now)) (bounded : Bounded P (start .args .least))
@@ -183,7 +183,7 @@ unfolding tableOf
 dfs-worth-requires t c κs =
     let p = c .before .before .before in
     let h = c .before .before .loop-test .taken in
-    (ap length (table-is t p h), (tried-lawful t p h, start t p h .pre .1 .1 .0 .0))
+    (ap length (table-is t p h), (tried-target t p h, start t p h .pre .1 .1 .0 .0 .wide))
 
 dfs-promising-requires : (t : ℕ) → dfs-lts.Need-promising-requires (callees t) (dfs-at t) dfs.Post dfs-Inv-loop dfs-μ-loop
 unfolding tableOf
@@ -191,7 +191,7 @@ dfs-promising-requires t c κs =
     let p = c .before .before .before .before .before .before .before .before in
     let h = c .before .before .before .before .before .before .before .loop-test .taken in
     let s = start t p h in
-    ((ap length (table-is t p h), tried-lawful t p h), ((s .pre .1 .1 .0 .0, (room t p h, p .loop .inv .1 .0)), s .pre .1 .1 .1 .1))
+    ((ap length (table-is t p h), tried-target t p h), ((s .pre .1 .1 .0 .0, (room t p h, p .loop .inv .1 .0)), s .pre .1 .1 .1 .1))
 
 dfs-advance-requires : (t : ℕ) → dfs-lts.Need-advance-requires (callees t) (dfs-at t) dfs.Post dfs-Inv-loop dfs-μ-loop
 unfolding tableOf
@@ -199,7 +199,7 @@ dfs-advance-requires t c κs =
     let p = c .before .before .before .before .before .before .before .before .before .before .before in
     let h = c .before .before .before .before .before .before .before .before .before .before .loop-test .taken in
     let s = start t p h in
-    ((ap length (table-is t p h), tried-lawful t p h), ((s .pre .1 .1 .0 .0, room t p h), s .pre .1 .1 .1 .1))
+    ((ap length (table-is t p h), tried-target t p h), ((s .pre .1 .1 .0 .0 .wide, room t p h), s .pre .1 .1 .1 .1))
 
 dfs-dfs-requires : (t : ℕ) → dfs-lts.Need-dfs-requires (callees t) (dfs-at t) dfs.Post dfs-Inv-loop dfs-μ-loop
 dfs-dfs-requires t c κs =
@@ -246,7 +246,8 @@ dfs-turn t c h =
           ap view e
           ∙ sym (not-worth P (task t p h) (node t p h) (posed .asks) at (limit t p h) (entry t p h .gate) (remaining t p h) (most t p h) (view (p .loop .b))
           (tried-is t p h P posed bounded at .listed) (some-left t p h) (p .loop .inv .1 .0) (enough t p h P posed bounded at)
-          (sym (c .before .worth .ensures (task t p h .wanted) (node t p h .columns) (five-columns P (node t p h) at) (table-is t p h) (p .before .before .before .before .before .before .before .before .plan-of .ensures .0)) ∙ d .0 .left)),
+          (sym (c .before .worth .ensures (task t p h .controls) (task t p h .wanted) (node t p h .columns) (posed .asks .fair .few)
+          (posed .asks .kinds (entry t p h .gate) (tried-is t p h P posed bounded at .listed)) (five-columns P (node t p h) at) (table-is t p h) (p .before .before .before .before .before .before .before .before .plan-of .ensures .0)) ∙ d .0 .left)),
     ))
     o)
     (c .if3 .came)
@@ -284,12 +285,12 @@ pub +dfs-spec : {M : Type 1} → statement M
     dfs-Inv-loop
     dfs-μ-loop
     (λ c κs. let s = c .before .before .before in (s .pre .1 .1 .1 .1 .few, s .pre .1 .1 .0 .1))
-    (λ c κs. c .before .before .before .before .before .before .pre .1 .1 .0 .0)
+    (λ c κs. c .before .before .before .before .before .before .pre .1 .1 .0 .0 .wide)
     (λ c κs. search needs)
     (dfs-returns t)
-    (λ c κs. let s = c .before .before .before .before .before .before .before .before .before .before .before in let h = s .pre .1 .1 .1 .0 .0 in (s .pre .1 .1 .0 .0, ((omega arith, s .pre .1 .1 .1 .0 .1), c .before .before .before .before .plan-of .ensures .1)))
+    (λ c κs. let s = c .before .before .before .before .before .before .before .before .before .before .before in let h = s .pre .1 .1 .1 .0 .0 in (s .pre .1 .1 .0 .0 .wide, ((omega arith, s .pre .1 .1 .1 .0 .1), c .before .before .before .before .plan-of .ensures .1)))
     (dfs-returns-2 t)
-    (λ c κs. search needs)
+    (λ c κs. c .before .before .before .before .before .before .before .before .before .before .before .before .before .pre .1 .1 .0 .0 .few)
     (dfs-loop-holds t)
     (λ c. search needs)
     (λ c. search needs)

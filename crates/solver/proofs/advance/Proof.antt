@@ -33,7 +33,7 @@ returns c =
         },
       ),
       λ P asks at is ht.
-          let step = c .before .before .before .before .before .before .before .step .ensures (a .task .wanted) ht in
+          let step = c .before .before .before .before .before .before .before .step .ensures (a .task .controls) (a .task .wanted) (asks .fair .few) (asks .kinds (a .entry .gate) (is .listed)) ht in
           follows P (a .s) _ (a .entry) at is (omega (arith, small .sized)) refl refl step d refl
           (c .still-needed .ensures .0 P _ asks (follow-list P (a .s) (a .entry) at is .0) (step ∙ follow-list P (a .s) (a .entry) at is .1) (at .needing)),
     )

@@ -10,7 +10,7 @@ use Rattle.problem.specs.Inner.{Dearer, Shortest}
 use Rattle.problem.proofs.Limits.{final, found-cost}
 use Rattle.solver.specs.declared.Task.{Task}
 use Rattle.solver.specs.States.{Posed, Bounded, Limited, Ready, limitedTo}
-use Rattle.solver.proofs.Searches.{unmarked, priced-below}
+use Rattle.solver.proofs.Searches.{fair-limited, unmarked, priced-below}
 use Rattle.solver.proofs.cheaper.Statement.{statement}
 use Rattle.solver.proofs.cheaper.Tie as tie
 
@@ -30,7 +30,7 @@ at-cost-requires c κs =
     let s = c .before .before .before .before .before .before .before .before .before .before in
     let r = s .pre .1 .0 in (
       s .pre .0,
-      subst (λ (t : Task). Ready t (s .args .least) × (t .«gate_limit» ≤ 12)) (sym (c .limited-to .ensures)) (record { wide = r .0 .wide; modest = r .0 .modest; few = r .0 .few }, r .1),
+      subst (λ (t : Task). Ready t (s .args .least) × (t .«gate_limit» ≤ 12)) (sym (c .limited-to .ensures)) (record { fair = fair-limited (s .args .task) _ (r .0 .fair); modest = r .0 .modest; few = r .0 .few }, r .1),
     )
 
 returns : tie.Need-returns Inv-loop μ-loop

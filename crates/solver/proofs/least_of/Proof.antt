@@ -15,7 +15,7 @@ returns c =
     let s = c .before .before .before .before .before .before .before in
     let a = s .args in
     let k = c .needed .ensures .1 in (
-      record { wide = s .pre; modest = c .before .before .extra .ensures .1; few = omega arith },
+      record { fair = s .pre; modest = c .before .before .extra .ensures .1; few = omega arith },
       λ P durations long posed. record {
         costs = costs-of P (a .task) (a .gates .now) (a .prices .now) durations posed long _ _ (c .before .before .extra .ensures .0);
         needed = needs-span P (a .task) (posed .asks) [] (c .before .start-columns .result) among-nil (c .before .start-columns .ensures) (c .needed .result) (c .needed .ensures .0);

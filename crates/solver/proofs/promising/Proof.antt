@@ -29,13 +29,16 @@ returns c = λ P remaining asks at is ht hr enough f.
     let take-is = length-take-le (a .s .len) (a .s .path) (at .roomy) in
     c .before .dear .ensures (c .if1 .taken) P (l ++ (g ∷ [])) (remaining - 1) (ap₂ _+_ (at .paid) (is .priced) ∙ sym (cost-snoc P l g)) (omega arith)
 
+stuck-requires : tie.Need-stuck-requires
+stuck-requires c κs = let fair = c .before .before .before .before .before .before .before .before .before .pre .1 .0 .0 in (fair .few, fair .wide)
+
 returns-2 : tie.Need-returns-2
 returns-2 c = λ P remaining asks at is ht hr enough f.
     let s = c .before .before .before .before .before .before .before .before .before .before .before in
     let a = s .args in
-    let next = c .before .before .step .ensures (a .task .wanted) ht in
+    let next = c .before .before .step .ensures (a .task .controls) (a .task .wanted) (asks .fair .few) (asks .kinds (a .entry .gate) (is .listed)) ht in
     stuck-after P (a .task) (a .s) asks at (a .task .«cost_limit») (a .entry .gate) remaining (a .most) (view (a .best)) (is .listed) hr (s .pre .1 .0 .1 .1) enough
-    (ap (λ (cs : List ℕ). stuck (a .task .wanted) cs (a .task .outputs) (a .task .free) (a .most - 1)) (sym next) ∙ sym (c .before .stuck .ensures) ∙ c .if2 .taken)
+    (ap (λ (cs : List ℕ). stuck (a .task .controls) (a .task .wanted) cs (a .task .outputs) (a .task .free) (a .most - 1)) (sym next) ∙ sym (c .before .stuck .ensures) ∙ c .if2 .taken)
 
 returns-3 : tie.Need-returns-3
 returns-3 c = λ P remaining asks at is ht hr enough f. absurd (true≢false f)
@@ -55,5 +58,5 @@ pub promising-spec : {M : Type 1} → statement M
 promising-spec =
     tie.close
     (tie.spec (λ c. search needs) (λ c. search needs) (λ c. search needs) (λ c. search needs) (λ c κs. search needs) returns
-    (λ c κs. search needs) (λ c. search needs) (λ c κs. search needs) returns-2 returns-3 (λ c κs. search needs) hold-requires
+    (λ c κs. search needs) (λ c. search needs) stuck-requires returns-2 returns-3 (λ c κs. search needs) hold-requires
     (λ c κs. search needs) (λ c. search needs) returns-4)

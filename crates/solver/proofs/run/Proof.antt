@@ -18,7 +18,7 @@ dfs-requires c κs =
     let e = c .before .root .ensures .0 in
     let z = e .0 in
     let m = s .pre .1 .1 in
-    (s .pre .0, ((r .wide, r .modest), ((omega arith, c .nothing .ensures .1 .1), e .1)))
+    (s .pre .0, ((r .fair, r .modest), ((omega arith, c .nothing .ensures .1 .1), e .1)))
 
 returns : tie.Need-returns
 returns c =

@@ -8,12 +8,14 @@ use Rattle.verify.proofs.measure_code.Tie as tie
 returns : tie.Need-returns
 unfolding measureCode
 returns c =
-    let s = c .before .before .before in
-    let same = c .before .before .rule .ensures ∙ ap (λ k. rule k 12 0) (s .same-wires .ensures) in
-    let second = c .before .and-then .ensures ∙ ap₂ andThen (s .before .circuit-code .ensures) same in
-    c .and-then2 .ensures ∙ ap₂ andThen (s .before .before .job-code .ensures) second
+    let r = c .before .before in
+    let s = r .before .before in
+    let mark = r .before .rule .ensures ∙ ap (λ k. rule k 28 0) (s .mark-fits .ensures) in
+    let same = r .rule2 .ensures ∙ (λ i. rule (s .before .same-wires .ensures i) 12 (mark i)) in
+    let second = c .before .and-then .ensures ∙ ap₂ andThen (s .before .before .circuit-code .ensures) same in
+    c .and-then2 .ensures ∙ ap₂ andThen (s .before .before .before .job-code .ensures) second
 
 pub measure-code-spec : {M : Type 1} → statement M
 measure-code-spec =
     tie.close (tie.spec (λ c κs. search needs) (λ c κs. search needs) (λ c κs. search needs) (λ c κs. search needs) (λ c κs. search needs)
-    (λ c κs. search needs) returns)
+    (λ c κs. search needs) (λ c κs. search needs) (λ c κs. search needs) returns)

@@ -1,12 +1,14 @@
-"""Writes the files of examples/ and what `gazbolk verify` must print for them.
+"""Writes the files of examples/ and what `gazbolk` must print for them.
 
 The circuits' texts are given here as text and read by the few lines below, the
-verdicts come from the model in reference.py: neither from the proved program.
+verdicts and what is found come from the model in reference.py, which tries every
+list: nothing comes from the proved program.
 Run it in the repository's root: python3 tools/examples.py
 """
 
 import os
 
+import jobs
 import reference
 
 GIFT = [int(digit, 16) for digit in "1A4C6F392DB7508E"]
@@ -46,8 +48,15 @@ t3 a d c
 .end
 """
 
-MEANINGS = {15: "the job allows the plain layout only",
-            16: "the circuit does not realize the table"}
+MEANINGS = {14: "no circuit within the limits realizes the table",
+            15: "the job allows the plain layout only",
+            16: "the circuit does not realize the table",
+            31: "the circuit has a gate that is not in the library"}
+
+# a device of three wires in a line: each wire has a NOT, and neighbours a CNOT either way
+LINE = [0x00, 0x02, 0x20, 0x21, 0x24, 0x40, 0x42]
+# wire 0 added to wire 2, its neighbour's neighbour
+ACROSS = 0x41
 
 
 def gates_of(text):
@@ -72,13 +81,36 @@ def job(free, values):
     return bytes(head + [0xF0 + value for value in values])
 
 
-def verdict(job, circuit):
-    code, measures = reference.verify_call(job, circuit)
+def library(gates):
+    """These gates at price 1 and duration 1, but for Toffolis at 5 and 7."""
+    return bytes(byte for gate in gates for byte in ((gate, 5, 7) if reference.kind_of(gate) == 2 else (gate, 1, 1)))
+
+
+def refusal(code):
+    return f"refused {code}\n{MEANINGS[code]}\n"
+
+
+def verdict(job, circuit, gates=None):
+    if gates is None:
+        code, measures = reference.verify_call(job, circuit)
+    else:
+        code, measures = reference.verify_with_call(job, gates, circuit)
     if code:
-        return f"refused {code}\n{MEANINGS[code]}\n"
+        return refusal(code)
     asked, given = reference.read_job(job), reference.read_circuit(circuit)
     ready = reference.ready_times(given.gates, asked.durations)
     return "passed {} {} {}\nready {} {} {} {} {}\n".format(*measures, *ready)
+
+
+def finding(job, gates=None):
+    """What a search prints, at prices 1, 1, 5 and durations 1, 1, 7."""
+    asked = reference.read_job(job)
+    gates = library(reference.gate_table(asked.n)) if gates is None else gates
+    code, circuit = reference.search_with_call(job, gates, 15)
+    if code:
+        return refusal(code)
+    measures = reference.measures_of(reference.read_circuit(circuit).gates, asked.prices, asked.durations)
+    return "found {} {} {} {}\n".format(*measures, circuit.hex().upper())
 
 
 def put(folder, name, content):
@@ -90,12 +122,17 @@ def put(folder, name, content):
 
 def main():
     gates = gates_of(EXAMPLE4)
+    across = jobs.after([ACROSS], 3)
     files = {
         "gift.job": job(True, GIFT),
         "gift.circuit": record(0x78, gates),
         "gift.real": GIFT_PLAIN,
         "example4.real": EXAMPLE4,
         "example4.job": job(False, [reference.run(gates, x) for x in range(16)]),
+        "across.job": jobs.job(across, 4),
+        "across3.job": jobs.job(across, 3),
+        "across.circuit": bytes([0x60, 0x18, 1, ACROSS]),
+        "line.library": library(LINE),
     }
     records = {
         "gift.circuit": files["gift.circuit"],
@@ -105,16 +142,21 @@ def main():
     for name, content in files.items():
         put("examples", name, content)
     runs = {
-        "gazbolk": ("gift.job", "gift.circuit"),
-        "gazbolk_text": ("gift.job", "gift.real"),
-        "gazbolk_refused": ("gift.job", "example4.real"),
+        "gazbolk": ("verify", "gift.job", "gift.circuit"),
+        "gazbolk_text": ("verify", "gift.job", "gift.real"),
+        "gazbolk_refused": ("verify", "gift.job", "example4.real"),
+        "gazbolk_listed": ("verify", "across.job", "across.circuit", "line.library"),
+        "gazbolk_search": ("search", "across.job"),
+        "gazbolk_library": ("search", "across.job", "line.library"),
+        "gazbolk_none": ("search", "across3.job", "line.library"),
     }
-    for crate, (asked, given) in runs.items():
+    for crate, (command, *names) in runs.items():
         folder = os.path.join("crates", crate)
-        for name in (asked, given):
+        for name in names:
             put(os.path.join(folder, "data"), name, files[name])
-        put(folder, "args", f"verify\n{asked}\n{given}\n")
-        put(folder, "stdout", verdict(files[asked], records[given]))
+        put(folder, "args", "\n".join([command, *names]) + "\n")
+        contents = [records.get(name, files[name]) for name in names]
+        put(folder, "stdout", (verdict if command == "verify" else finding)(*contents))
     for asked in ("gift.job", "example4.job"):
         for given in records:
             print(asked, given, verdict(files[asked], records[given]).replace("\n", " "))

@@ -79,15 +79,25 @@ class Measures(NamedTuple):
     depth: int
 
 
-def ready_times(gates, durations):
-    """For each of five wires, the time from which it is idle for good."""
+def ready_by(gates, duration):
+    """For each of five wires, the time from which it is idle for good; each
+    gate's duration is given by its byte."""
     ready = [0] * 5
     for gate in gates:
         touched = [target_of(gate)] + controls_of(gate)
-        end = max(ready[wire] for wire in touched) + durations[kind_of(gate)]
+        end = max(ready[wire] for wire in touched) + duration[gate]
         for wire in touched:
             ready[wire] = end
     return ready
+
+
+def by_kind(gates, weights):
+    """The weight of each gate byte, where weights go by kind, the NOT's first."""
+    return {gate: weights[kind_of(gate)] for gate in gates}
+
+
+def ready_times(gates, durations):
+    return ready_by(gates, by_kind(gates, durations))
 
 
 def ready_words(gates, durations):
@@ -95,10 +105,14 @@ def ready_words(gates, durations):
     return " ".join(["ready"] + [str(time) for time in ready_times(gates, durations)])
 
 
+def measures_by(gates, price, duration):
+    """Prices and durations by gate byte."""
+    return Measures(len(gates), sum(price[gate] for gate in gates), max(ready_by(gates, duration)))
+
+
 def measures_of(gates, prices, durations):
     """Prices and durations by kind, the NOT's first."""
-    cost = sum(prices[kind_of(gate)] for gate in gates)
-    return Measures(len(gates), cost, max(ready_times(gates, durations)))
+    return measures_by(gates, by_kind(gates, prices), by_kind(gates, durations))
 
 
 # ---- layouts --------------------------------------------------------------
@@ -255,7 +269,11 @@ def verify_call(job, circuit):
     code, measured = measure_call(job, circuit)
     if code:
         return code, None
-    asked, given = read_job(job), read_circuit(circuit)
+    return verify_rest(read_job(job), read_circuit(circuit), measured)
+
+
+def verify_rest(asked, given, measured):
+    """The rules of verifying that follow those of measuring."""
     if not asked.free and given.layout != PLAIN_LAYOUT[asked.n]:
         return 15, None
     if not agrees(given.gates, given.layout, asked.rows):
@@ -285,3 +303,68 @@ def parity_call(job):
             or sorted(values) != list(range(size))):
         return 0, "neither"
     return 0, "odd" if inversions(values) % 2 else "even"
+
+
+# ---- with a library -------------------------------------------------------
+# Document 02's buyer's gate table: three bytes an entry, gate, price, duration.
+
+LIBRARY_AT_MOST = 225
+
+
+def entries_of(library):
+    return [tuple(library[at:at + 3]) for at in range(0, len(library), 3)]
+
+
+def check_library(job, library):
+    """The code of the first rule that a library breaks for a sound job, or 0."""
+    if len(library) > LIBRARY_AT_MOST or len(library) % 3 != 0:
+        return 29
+    asked, last = read_job(job), -1
+    for gate, _, duration in entries_of(library):
+        if (not lawful(gate, asked.n + asked.m, 3 if asked.longer else 2)
+                or duration == 0 or gate <= last):
+            return 30
+        last = gate
+    return 0
+
+
+def verify_with_call(job, library, circuit):
+    code = check_job(job) or check_library(job, library) or check_pair(job, circuit)
+    if code:
+        return code, None
+    asked, given = read_job(job), read_circuit(circuit)
+    price = {gate: price for gate, price, _ in entries_of(library)}
+    duration = {gate: duration for gate, _, duration in entries_of(library)}
+    if any(gate not in price for gate in given.gates):
+        return 31, None
+    return verify_rest(asked, given, measures_by(given.gates, price, duration))
+
+
+def search_with_call(job, library, room):
+    """Every list of the library's gates up to the limit, with every layout:
+    the code, or the record that comes first."""
+    code = check_job(job) or check_library(job, library)
+    if code:
+        return code, None
+    if room < 15:
+        return 13, None
+    asked = read_job(job)
+    entries = entries_of(library)
+    price = {gate: price for gate, price, _ in entries}
+    duration = {gate: duration for gate, _, duration in entries}
+    allowed = layouts(asked.n) if asked.free else [PLAIN_LAYOUT[asked.n]]
+    best, lists = None, [[]]
+    for count in range(asked.limits.gates + 1):
+        for gates in lists:
+            measured = measures_by(gates, price, duration)
+            if any(got > limit for got, limit in zip(measured, asked.limits)) or not clean(gates, asked.n):
+                continue
+            for layout in allowed:
+                key = (measured.cost, count, measured.depth, layout, gates)
+                if (best is None or key < best) and agrees(gates, layout, asked.rows):
+                    best = key
+        lists = [gates + [gate] for gates in lists for gate, _, _ in entries]
+    if best is None:
+        return 14, None
+    head = asked.n << 5 | asked.m << 3 | asked.longer
+    return 0, bytes([head, best[3], best[1]] + best[4])

@@ -1,6 +1,8 @@
 // The program for people: its first word is a command, and the words after it are names of files. A program has no exit status here, so
 // the first word of what it prints says how it went.
 use libc::STDOUT_FILENO;
+ghost use Prim.Native.Nat.{_≤_};
+ghost use lib.ListN.{length};
 
 // Does what the words after the program's name ask for, or says what can be asked.
 pub fn run() {
@@ -9,24 +11,34 @@ pub fn run() {
     dispatch(&word[..n], os::arg_count());
 }
 
-// Each command by its name and its number of words, the program's own name among them.
+// Each command by its name and its number of words, the program's own name among them; a library may be named last.
 fn dispatch(word: &[u8], words: usize) {
-    if is_asked(word, b"verify", words == 4) {
-        verify();
+    if is_asked(word, b"verify", words, 4) {
+        verify(words == 5);
+        return;
+    }
+    if is_asked(word, b"search", words, 3) {
+        search(words == 4);
         return;
     }
     usage();
 }
 
-fn is_asked(word: &[u8], command: &[u8], enough: bool) -> bool {
-    enough && check::same(word, command)
+// Whether a command has its name and all its words, or one more.
+fn is_asked(word: &[u8], command: &[u8], words: usize, all: usize) -> bool {
+    all <= words && words - all <= 1 && check::same(word, command)
 }
 
 fn usage() {
     say(b"usage: gazbolk COMMAND WORDS\n");
-    say(b"\nverify JOB CIRCUIT\n");
-    say(b"    Judges a circuit for a job. JOB names the file of a job record, CIRCUIT that of\n");
-    say(b"    a circuit record, or of RevLib text, which begins with .version.\n");
+    say(b"\nsearch JOB [LIBRARY]\n");
+    say(b"    Searches for the cheapest circuit of a job. JOB names the file of a job record,\n");
+    say(b"    LIBRARY that of a gate library: three bytes for each gate, the gate, its price\n");
+    say(b"    and its duration, in place of the job's own.\n");
+    say(b"    Prints `found GATES COST DEPTH RECORD`, or `refused NUMBER` and what it means.\n");
+    say(b"\nverify JOB CIRCUIT [LIBRARY]\n");
+    say(b"    Judges a circuit for a job. CIRCUIT names the file of a circuit record, or of\n");
+    say(b"    RevLib text, which begins with .version.\n");
     say(b"    Prints `passed GATES COST DEPTH` and, on a second line, `ready` and the time at\n");
     say(b"    which each of five wires comes free; or `refused NUMBER` and what it means.\n");
     say(b"\nA file that cannot be read gets the line `unreadable NAME`.\n");
@@ -36,15 +48,27 @@ fn say(text: &[u8]) {
     io::write_all(STDOUT_FILENO, text);
 }
 
-// `gazbolk verify JOB CIRCUIT`
-fn verify() {
+// `gazbolk verify JOB CIRCUIT [LIBRARY]`
+fn verify(named: bool) {
     let job = open(2);
     let circuit = open(3);
-    if job >= 0 {
-        if circuit >= 0 {
-            print_verdict(job, circuit);
-        }
+    let library = open_named(named, 4);
+    if all_open(job, circuit, library) {
+        print_verdict(job, circuit, named, library);
     }
+}
+
+// `gazbolk search JOB [LIBRARY]`
+fn search(named: bool) {
+    let job = open(2);
+    let library = open_named(named, 3);
+    if all_open(job, job, library) {
+        print_finding(job, named, library);
+    }
+}
+
+fn all_open(job: i32, circuit: i32, library: i32) -> bool {
+    job >= 0 && circuit >= 0 && library >= 0
 }
 
 // Opens the file that a word names, or says that it cannot be read and answers -1.
@@ -61,6 +85,11 @@ fn open(i: usize) -> i32 {
     -1
 }
 
+// The same, where such a word is there; else 0, for a file that is not read.
+fn open_named(named: bool, i: usize) -> i32 {
+    if named { open(i) } else { 0 }
+}
+
 // A folder can be opened, and then not even nothing can be read from it.
 fn is_readable(file: i32) -> bool {
     if file < 0 {
@@ -70,15 +99,38 @@ fn is_readable(file: i32) -> bool {
     libc::read(file, &mut nothing[..0]) >= 0
 }
 
+// Reads the first bytes of a file, up to `room` of them; none where no file is named.
+fn read_part(named: bool, file: i32, room: usize, buffer: &mut [u8]) -> usize
+    requires { ⌜ room ≤ length (now buffer) ⌝ }
+    ensures { λ r. ⌜ r ≤ room ⌝ }
+{
+    if named {
+        io::read_full(file, &mut buffer[..room])
+    } else {
+        0
+    }
+}
+
 // Judges the circuit of one open file for the job of another, and prints the verdict. As much of each is read as tells it.
-fn print_verdict(job_file: i32, circuit_file: i32) {
+fn print_verdict(job_file: i32, circuit_file: i32, named: bool, library_file: i32) {
     let mut job = io::buffer();
-    let job_room = judge::job_room();
-    let n = io::read_full(job_file, &mut job[..job_room]);
+    let n = read_part(true, job_file, files::job_room(), &mut job);
+    let mut library = io::buffer();
+    let k = read_part(named, library_file, files::library_room(), &mut library);
     let mut circuit = io::large_buffer();
-    let circuit_room = judge::circuit_room();
-    let m = io::read_full(circuit_file, &mut circuit[..circuit_room]);
+    let m = read_part(true, circuit_file, files::circuit_room(), &mut circuit);
     let mut out = [0u8; 128];
-    let size = judge::verify_text(&job[..n], &circuit[..m], &mut out);
+    let size = files::verify_text(&job[..n], named, &library[..k], &circuit[..m], &mut out);
+    say(&out[..size]);
+}
+
+// Searches for the circuit of the job in an open file, and prints what is found. As much of each file is read as tells it.
+fn print_finding(job_file: i32, named: bool, library_file: i32) {
+    let mut job = io::buffer();
+    let n = read_part(true, job_file, files::job_room(), &mut job);
+    let mut library = io::buffer();
+    let k = read_part(named, library_file, files::library_room(), &mut library);
+    let mut out = [0u8; 128];
+    let size = files::search_text(&job[..n], named, &library[..k], &mut out);
     say(&out[..size]);
 }

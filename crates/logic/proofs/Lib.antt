@@ -7,3 +7,4 @@ pub mod Bits
 pub mod Xor
 pub mod Cells
 pub mod Answers
+pub mod Prefixes

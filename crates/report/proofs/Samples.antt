@@ -2,7 +2,7 @@
 use mathlib.Core.Path.{_≡_, refl}
 use Rattle.logic.specs.Words.{bytes}
 use Rattle.text.specs.Text.{place, decimal, spaced, refusedLine}
-use Rattle.report.specs.Meanings.{said, otherMeaning, verifyMeaning, circuitMeaning, meaning}
+use Rattle.report.specs.Meanings.{said, otherMeaning, libraryMeaning, verifyMeaning, circuitMeaning, meaning}
 use Rattle.report.specs.Report.{passedLine, times, readyLine, passedText, refusedText}
 
 -- document 01's gates 21 43, at prices 1, 1, 5 and durations 1, 1, 7
@@ -20,7 +20,11 @@ pub marked-sample : refusedText 28 ≡ bytes "refused 28\nthe circuit is marked 
 unfolding refusedText refusedLine decimal place said meaning circuitMeaning verifyMeaning
 marked-sample = refl
 
+pub unlisted-sample : refusedText 31 ≡ bytes "refused 31\nthe circuit has a gate that is not in the library\n"
+unfolding refusedText refusedLine decimal place said meaning circuitMeaning verifyMeaning libraryMeaning
+unlisted-sample = refl
+
 -- 11 is reserved and never comes up
 pub unused-sample : refusedText 11 ≡ bytes "refused 11\nno rule has this number\n"
-unfolding refusedText refusedLine decimal place said meaning circuitMeaning verifyMeaning otherMeaning
+unfolding refusedText refusedLine decimal place said meaning circuitMeaning verifyMeaning libraryMeaning otherMeaning
 unused-sample = refl

@@ -41,6 +41,13 @@ verifyMeanings =
     ∷ (19 means "the circuit is deeper than the depth limit")
     ∷ []
 
+abbrev pub libraryMeanings : List Meaning
+libraryMeanings =
+    (29 means "the library is not up to 75 entries of three bytes each")
+    ∷ (30 means "an entry's gate, duration or place in the order is not lawful")
+    ∷ (31 means "the circuit has a gate that is not in the library")
+    ∷ []
+
 -- of the other calls: searching, running, and reading a circuit's text
 abbrev pub otherMeanings : List Meaning
 otherMeanings =
@@ -59,8 +66,11 @@ said n ((k means words) ∷ ms) rest = pick (eqb n k) (bytes words) (said n ms r
 unfoldable pub otherMeaning : ℕ → List ℕ
 otherMeaning n = said n otherMeanings (bytes "no rule has this number")
 
+unfoldable pub libraryMeaning : ℕ → List ℕ
+libraryMeaning n = said n libraryMeanings (otherMeaning n)
+
 unfoldable pub verifyMeaning : ℕ → List ℕ
-verifyMeaning n = said n verifyMeanings (otherMeaning n)
+verifyMeaning n = said n verifyMeanings (libraryMeaning n)
 
 unfoldable pub circuitMeaning : ℕ → List ℕ
 circuitMeaning n = said n circuitMeanings (verifyMeaning n)

@@ -1,4 +1,4 @@
-// What is printed for an answer of `verify`, as bytes written into a lent buffer.
+// What is printed for an answer, as bytes written into a lent buffer.
 use text::put_text;
 use verify::Measured;
 use verify::Measures;
@@ -8,7 +8,7 @@ ghost use lib.ListN.{length};
 ghost use Rattle.verify.specs.Calls.{measuredAnswer};
 ghost use Rattle.text.specs.Text.{inFront};
 ghost use Rattle.text.specs.Writing.{Wrote};
-ghost use Rattle.report.specs.Meanings.{otherMeaning, verifyMeaning, circuitMeaning, meaning};
+ghost use Rattle.report.specs.Meanings.{otherMeaning, libraryMeaning, verifyMeaning, circuitMeaning, meaning};
 ghost use Rattle.report.specs.Report.{passedLine, times, readyLine, passedText, refusedText, reportOf};
 
 fn put_other_meaning(out: &mut [u8], i: usize, code: u8) -> usize
@@ -22,6 +22,26 @@ fn put_other_meaning(out: &mut [u8], i: usize, code: u8) -> usize
         22 => put_text(out, i, b"the text departs from the form of a circuit"),
         23 => put_text(out, i, b"the text has more than 12 gates"),
         _ => put_text(out, i, b"no rule has this number"),
+    }
+}
+
+fn put_library_meaning(out: &mut [u8], i: usize, code: u8) -> usize
+    requires { ⌜ i + 64 ≤ length (now out) ⌝ }
+    ensures { λ r. ⌜ Wrote (now (out .entry)) i (libraryMeaning code) (now (out .exit)) r ⌝ }
+{
+    match code {
+        29 => put_text(
+            out,
+            i,
+            b"the library is not up to 75 entries of three bytes each",
+        ),
+        30 => put_text(
+            out,
+            i,
+            b"an entry's gate, duration or place in the order is not lawful",
+        ),
+        31 => put_text(out, i, b"the circuit has a gate that is not in the library"),
+        _ => put_other_meaning(out, i, code),
     }
 }
 
@@ -42,7 +62,7 @@ fn put_verify_meaning(out: &mut [u8], i: usize, code: u8) -> usize
         17 => put_text(out, i, b"the circuit has more gates than the gate limit"),
         18 => put_text(out, i, b"the circuit costs more than the cost limit"),
         19 => put_text(out, i, b"the circuit is deeper than the depth limit"),
-        _ => put_other_meaning(out, i, code),
+        _ => put_library_meaning(out, i, code),
     }
 }
 

@@ -15,19 +15,19 @@ use Rattle.table.specs.Rows.{rowOk, bitAgrees, rowAgrees, agreesFrom, clean, re
 use Rattle.record.specs.Jobs.{longer, dataWires, ancillas, wires, freeLayout, gateLimit, costLimit, depthLimit, prices, durations}
 use Rattle.record.specs.Jobs.{jobLengthOk, sizeOk, headOk, limitOk, durationsOk, rowsOk, jobCode}
 use Rattle.record.specs.Circuits.{marked, layoutOf, countOf, circuitLengthOk, shapeOk, circuitCode, circuitBytes}
-use Rattle.verify.specs.Calls.{runCode, runOf, measuresOf, sameWires, markFits, measureCode, measureOf, limitsCode, verifyRest, verifyCode, verifyOf}
+use Rattle.verify.specs.Calls.{runCode, runOf, measuresOf, sameWires, markFits, circuitCodeFor, measureCode, measureOf, limitsCode, verifyRest, verifyCode, verifyOf}
 use Rattle.parity.specs.Parity.{full, distinct, permutes, smaller, inversions, tableParity, parityOf}
 use Rattle.choice.specs.Choices.{lexLess, before, keep, attempt, improve, under}
 use Rattle.problem.specs.Problems.{choiceOf, here, within, firstGood}
-use Rattle.search.specs.Outcomes.{problemOf, recordOf, searchCode, searchOf}
+use Rattle.search.specs.Outcomes.{problemOver, recordOf, searchOver, searchCode, searchOf}
 use Rattle.samples.specs.Table.{Sample, holds, samples, failing}
 
 pub all-hold : failing 1 samples ≡ 0
 unfolding failing samples holds lawful step gateOf weightOf hold greatest total along back allOf parityOf tableParity permutes full
     distinct inversions smaller jobCode jobLengthOk sizeOk headOk limitOk durationsOk rowsOk rowOk dataWires ancillas wires freeLayout
     gateLimit costLimit depthLimit prices durations layoutOf countOf circuitLengthOk shapeOk circuitCode layoutOk allowed bitAgrees
-    rowAgrees agreesFrom runCode runOf measuresOf sameWires measureCode measureOf limitsCode verifyRest verifyCode verifyOf ones onesIn
-    trailingZeros leadingZeros lexLess before keep attempt improve under choiceOf here within firstGood problemOf recordOf circuitBytes searchCode searchOf
+    rowAgrees agreesFrom runCode runOf measuresOf sameWires circuitCodeFor measureCode measureOf limitsCode verifyRest verifyCode verifyOf ones onesIn
+    trailingZeros leadingZeros lexLess before keep attempt improve under choiceOf here within firstGood problemOver recordOf circuitBytes searchOver searchCode searchOf
     layoutsFor clean realizes longer marked markFits
 all-hold = refl
 

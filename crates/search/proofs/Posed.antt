@@ -1,4 +1,4 @@
--- What the search hands to the solver poses the job's problem.
+-- What a search hands to the solver poses the problem of the job and the gates at hand.
 use mathlib.Core.Path.{_≡_, refl, sym, ap, ap₂, _∙_, subst}
 use mathlib.Core.Bool.{Bool, true, false}
 use mathlib.Core.Logic.{_⊎_, inl, inr, ⊎-elim}
@@ -10,21 +10,18 @@ use lib.Seq.{length-take-le, getD-take}
 use Rattle.logic.specs.Rules.{both, pick}
 use Rattle.logic.specs.Lists.{Among}
 use Rattle.logic.proofs.Members.{member-at, among-all}
-use Rattle.gate.specs.Gates.{lawful, gatesFor}
-use Rattle.gate.proofs.Tables.{gate-is}
+use Rattle.gate.specs.Gates.{lawful}
 use Rattle.gate.proofs.Widen.{widen, parts}
-use Rattle.circuit.specs.declared.Weights.{Weights}
-use Rattle.circuit.specs.Measure.{weightOf}
 use Rattle.circuit.specs.Inner.{columnsAfter}
 use Rattle.table.specs.Rows.{realizes}
-use Rattle.record.specs.Jobs.{longer, mostControls, dataWires, wires, prices, durations, rows, jobCode}
+use Rattle.record.specs.Jobs.{longer, mostControls, dataWires, wires, rows, jobCode}
 use Rattle.record.proofs.Kept.{sound-job, wires-within, two-or-three}
 use Rattle.columns.specs.Wanted.{wantedOf, columnsOf, startColumns, reached}
 use Rattle.columns.proofs.Agreement.{met-agrees, tidy-clean}
 use Rattle.solver.specs.declared.Task.{Task}
 use Rattle.solver.specs.States.{Slices, Fair, Asks, Posed, Limited}
-use Rattle.search.specs.Outcomes.{problemOf}
-use Rattle.search.specs.Inner.{taskOf}
+use Rattle.search.specs.Outcomes.{GateSet, problemOver}
+use Rattle.search.specs.Inner.{taskOf, Lawfuls, Tabled}
 
 -- gates of a job have at most two or three controls
 two-three : (more : Bool) → (pick {A = ℕ} more 3 2 ≡ 2) ⊎ (pick {A = ℕ} more 3 2 ≡ 3)
@@ -41,35 +38,27 @@ module _ (job : List ℕ) (sound : jobCode job ≡ 0) where
       (λ (e : dataWires job ≡ 4). let k : length (rows job) ≡ 16 = r ∙ ap (λ (n : ℕ). 2 ^ n) e in omega arith)
       (s .width)
 
-  -- the job's gates, each known with as many controls as the job allows or more
-  abbrev listing : List ℕ
-  listing = gatesFor (mostControls job) (wires job)
+  -- gates lawful for the job are known with as many controls as it allows or more
+  module _ (listing : List ℕ) (kept : Lawfuls job listing) where
+    known : (k g : ℕ) → mostControls job ≤ k → List·Memᴰ g listing → lawful k 5 g ≡ true
+    known k g h m = widen (mostControls job) (wires job) k 5 g h (wires-within job sound .1) (kept g m)
 
-  known : (k g : ℕ) → mostControls job ≤ k → List·Memᴰ g listing → lawful k 5 g ≡ true
-  known k g h m = widen (mostControls job) (wires job) k 5 g h (wires-within job sound .1) (gate-is (mostControls job) (wires job) g m)
-
-  -- the test of columns is the test of rows
-  columned : (p : ℕ) (l : List ℕ) → Among listing l
-      → realizes (dataWires job) (rows job) p l ≡ reached (wantedOf (rows job)) (dataWires job) (columnsAfter l startColumns) p
-  unfolding realizes
-  columned p l a =
-      let h = among-all (lawful 3 5) listing l (λ g m. known 3 g (two-or-three (longer job) .1) m) a in
-      sym (ap₂ both (met-agrees (rows job) l rows-few h p) (tidy-clean l h (dataWires job) (sound-job job sound .width)))
-
--- each of the gates has its weight in a table
-abbrev Weighs : Weights → List ℕ → List ℕ → Type 0
-Weighs ws gates weights = (i : ℕ) → i < length gates → getD weights i 0 ≡ weightOf ws (getD gates i 0)
+    -- the test of columns is the test of rows
+    columned : (p : ℕ) (l : List ℕ) → Among listing l
+        → realizes (dataWires job) (rows job) p l ≡ reached (wantedOf (rows job)) (dataWires job) (columnsAfter l startColumns) p
+    unfolding realizes
+    columned p l a =
+        let h = among-all (lawful 3 5) listing l (λ g m. known 3 g (two-or-three (longer job) .1) m) a in
+        sym (ap₂ both (met-agrees (rows job) l rows-few h p) (tidy-clean l h (dataWires job) (sound-job job sound .width)))
 
 -- what is handed to the solver: the job's task, and three tables with room for more gates than there are, lent up to the last one
 pub record Handed (job : List ℕ) (task : Task) (table paid held : List ℕ) (count : ℕ) : Type 0 where
   pub sound : jobCode job ≡ 0
+  pub kept : Lawfuls job (take count table)
   pub tasked : task ≡ taskOf job
-  pub listed : take count table ≡ gatesFor (mostControls job) (wires job)
   pub long : count ≤ length table
   pub long-paid : count ≤ length paid
   pub long-held : count ≤ length held
-  pub priced : Weighs (prices job) (take count table) paid
-  pub timed : Weighs (durations job) (take count table) held
 
 module _ {job : List ℕ} {task : Task} {table paid held : List ℕ} {count : ℕ} (h : Handed job task table paid held count) where
   fair : Fair (taskOf job)
@@ -80,43 +69,51 @@ module _ {job : List ℕ} {task : Task} {table paid held : List ℕ} {count : �
   unfolding taskOf
   in-range = subst (λ (u : Task). Fair u × (u .«gate_limit» ≤ 12)) (sym (h .tasked)) (fair, sound-job job (h .sound) .limit)
 
-  pub limited : Limited (problemOf job) task
-  unfolding problemOf taskOf
-  limited = subst (Limited (problemOf job)) (sym (h .tasked)) (record { gates-most = refl; cost-most = refl })
-
-  asked : Asks (problemOf job) task
-  unfolding problemOf taskOf wantedOf columnsOf
-  asked =
-      subst (Asks (problemOf job)) (sym (h .tasked))
-      (record {
-        fair = fair;
-        four = refl;
-        laid = refl;
-        table = columned job (h .sound);
-        deep = refl;
-        kinds = λ g m. known job (h .sound) (mostControls job) g (omega arith) m;
-      })
+  lent : length (take count table) ≡ count
+  lent = length-take-le count table (h .long)
 
   pub sliced : Slices (take count table) (take count paid) (take count held)
-  sliced =
-      let e = sym (length-take-le count table (h .long)) in
-      record {
-        priced-all = length-take-le count paid (h .long-paid) ∙ e;
-        timed-all = length-take-le count held (h .long-held) ∙ e;
-        known = λ i k.
-            let g = getD (take count table) i 0 in
-            let m = subst (List·Memᴰ g) (h .listed) (member-at (take count table) i k) in
-            parts (mostControls job) 5 g (known job (h .sound) (mostControls job) g (omega arith) m) .target;
-      }
-
-  cut : (ws : Weights) (weights : List ℕ) → Weighs ws (take count table) weights → Weighs ws (take count table) (take count weights)
-  cut ws weights f i k = getD-take count weights i 0 (omega (arith, length-take-le count table (h .long))) ∙ f i k
-
-  pub posed : Posed (problemOf job) task (take count table) (take count paid) (take count held)
-  unfolding problemOf
-  posed = record {
-    asks = asked;
-    listed = h .listed;
-    priced = cut (prices job) paid (h .priced);
-    timed = cut (durations job) held (h .timed);
+  sliced = record {
+    priced-all = length-take-le count paid (h .long-paid) ∙ sym lent;
+    timed-all = length-take-le count held (h .long-held) ∙ sym lent;
+    known = λ i k.
+        let g = getD (take count table) i 0 in
+        let m = member-at (take count table) i k in
+        parts (mostControls job) 5 g (known job (h .sound) (take count table) (h .kept) (mostControls job) g (omega arith) m) .target;
   }
+
+  module _ {G : GateSet} (t : Tabled G table paid held count) where
+    lawfuls : Lawfuls job (G .gates)
+    lawfuls = subst (Lawfuls job) (t .listed) (h .kept)
+
+    pub limited : Limited (problemOver G job) task
+    unfolding problemOver taskOf
+    limited = subst (Limited (problemOver G job)) (sym (h .tasked)) (record { gates-most = refl; cost-most = refl })
+
+    asked : Asks (problemOver G job) task
+    unfolding problemOver taskOf wantedOf columnsOf
+    asked =
+        subst (Asks (problemOver G job)) (sym (h .tasked))
+        (record {
+          fair = fair;
+          four = refl;
+          laid = refl;
+          table = columned job (h .sound) (G .gates) lawfuls;
+          deep = refl;
+          kinds = λ g m. known job (h .sound) (G .gates) lawfuls (mostControls job) g (omega arith) m;
+        })
+
+    cut : (weight : ℕ → ℕ) (weights : List ℕ) → ((i : ℕ) → i < count → getD weights i 0 ≡ weight (getD table i 0))
+        → (i : ℕ) → i < length (take count table) → getD (take count weights) i 0 ≡ weight (getD (take count table) i 0)
+    cut weight weights f i k =
+        let c : i < count = omega (arith, lent) in
+        getD-take count weights i 0 c ∙ f i c ∙ ap weight (sym (getD-take count table i 0 c))
+
+    pub posed : Posed (problemOver G job) task (take count table) (take count paid) (take count held)
+    unfolding problemOver
+    posed = record {
+      asks = asked;
+      listed = t .listed;
+      priced = cut (G .price) paid (t .priced);
+      timed = cut (G .duration) held (t .timed);
+    }

@@ -1,13 +1,21 @@
 -- What the search asks of the solver, and when it need not ask. No public contract cites this.
-use mathlib.Core.Bool.{Bool}
-use mathlib.Core.List.{List}
-use Prim.Native.Nat.{ℕ}
+use mathlib.Core.Path.{_≡_}
+use mathlib.Core.Bool.{Bool, true}
+use mathlib.Core.List.{List, List·Memᴰ}
+use mathlib.Core.Option.{Option, none, some}
+use Prim.Native.Nat.{ℕ, _<_}
 use lib.Dec.{eqb}
+use lib.ListN.{getD, take}
 use Rattle.logic.specs.Rules.{both}
-use Rattle.record.specs.Jobs.{mostControls, dataWires, ancillas, freeLayout, gateLimit, costLimit, depthLimit, rows}
+use Rattle.logic.specs.Answers.{Answer, refused, answered}
+use Rattle.gate.specs.Gates.{lawful}
+use Rattle.record.specs.Jobs.{mostControls, dataWires, ancillas, wires, freeLayout, gateLimit, costLimit, depthLimit, rows}
+use Rattle.verify.specs.declared.Measures.{Measures}
 use Rattle.parity.specs.Parity.{isOdd, tableParity}
 use Rattle.columns.specs.Wanted.{wantedOf}
+use Rattle.choice.specs.Choices.{Choice}
 use Rattle.solver.specs.declared.Task.{Task}
+use Rattle.search.specs.Outcomes.{GateSet, recordOf, Found}
 
 unfoldable pub taskOf : List ℕ → Task
 taskOf job = record {
@@ -23,3 +31,18 @@ taskOf job = record {
 -- four data wires, no ancilla, gates of at most two controls, an odd permutation
 unfoldable pub alwaysNone : List ℕ → Bool
 alwaysNone job = both (both (eqb (dataWires job) 4) (eqb (ancillas job) 0)) (both (eqb (mostControls job) 2) (isOdd (tableParity job)))
+
+-- each of these gates is lawful for the job
+abbrev pub Lawfuls : List ℕ → List ℕ → Type 0
+Lawfuls job gates = (g : ℕ) → List·Memᴰ g gates → lawful (mostControls job) (wires job) g ≡ true
+
+-- three tables whose first entries are the gates of a set, with their prices and durations
+pub record Tabled (G : GateSet) (gates prices durations : List ℕ) (count : ℕ) : Type 0 where
+  pub listed : take count gates ≡ G .gates
+  pub priced : (i : ℕ) → i < count → getD prices i 0 ≡ G .price (getD gates i 0)
+  pub timed : (i : ℕ) → i < count → getD durations i 0 ≡ G .duration (getD gates i 0)
+
+-- what is told of a first good choice whose measures are known
+abbrev pub toldOf : List ℕ → Measures → Option Choice → Answer Found
+toldOf job m none = refused 14
+toldOf job m (some c) = answered (record { bytes = recordOf job (c .layout) (c .bytes); measures = m })

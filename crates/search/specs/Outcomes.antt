@@ -18,19 +18,31 @@ use Rattle.choice.specs.Choices.{Choice}
 use Rattle.problem.specs.Problems.{Problem, firstGood}
 use Rattle.search.specs.declared.Searched.{Searched}
 
--- "the meeting circuit with the job's n and m and an allowed placing, within all limits (each limit is itself allowed)"; for a longer job
--- "least cost and 'none' range over the larger gate set" (02)
-unfoldable pub problemOf : List ℕ → Problem
-problemOf job = record {
-  gates = gatesFor (mostControls job) (wires job);
+-- the gates that a list may be made of, with their prices and durations
+pub record GateSet : Type 0 where
+  pub gates : List ℕ
+  pub price : ℕ → ℕ
+  pub duration : ℕ → ℕ
+
+-- those lawful for a job, at its own; for a longer job "least cost and 'none' range over the larger gate set" (02)
+abbrev pub ownSet : List ℕ → GateSet
+ownSet job = record { gates = gatesFor (mostControls job) (wires job); price = priceOf job; duration = durationOf job }
+
+-- "the meeting circuit with the job's n and m and an allowed placing, within all limits (each limit is itself allowed)"
+unfoldable pub problemOver : GateSet → List ℕ → Problem
+problemOver G job = record {
+  gates = G .gates;
   layouts = layoutsFor (dataWires job) (freeLayout job);
-  price = priceOf job;
-  duration = durationOf job;
+  price = G .price;
+  duration = G .duration;
   realized = realizes (dataWires job) (rows job);
   mostGates = gateLimit job;
   mostCost = costLimit job;
   mostDepth = depthLimit job;
 }
+
+abbrev pub problemOf : List ℕ → Problem
+problemOf job = problemOver (ownSet job) job
 
 -- a circuit record with the job's n and m; a longer job's "answers carry a 1 in the lowest bit of the circuit's byte 0" (02)
 unfoldable pub recordOf : List ℕ → ℕ → List ℕ → List ℕ
@@ -41,20 +53,24 @@ pub record Found : Type 0 where
   pub bytes : List ℕ
   pub measures : Measures
 
-abbrev pub foundOf : List ℕ → Choice → Found
-foundOf job c = record { bytes = recordOf job (c .layout) (c .bytes); measures = measuresOf (priceOf job) (durationOf job) (c .bytes) }
+abbrev pub foundOf : GateSet → List ℕ → Choice → Found
+foundOf G job c = record { bytes = recordOf job (c .layout) (c .bytes); measures = measuresOf (G .price) (G .duration) (c .bytes) }
 
 -- "Does a circuit within the limits meet the table? If not, 14."
-abbrev pub outcomeOf : List ℕ → Option Choice → Answer Found
-outcomeOf job none = refused 14
-outcomeOf job (some c) = answered (foundOf job c)
+abbrev pub outcomeOf : GateSet → List ℕ → Option Choice → Answer Found
+outcomeOf G job none = refused 14
+outcomeOf G job (some c) = answered (foundOf G job c)
+
+-- a search among these gates, after checks that gave a code
+unfoldable pub searchOver : GateSet → List ℕ → ℕ → Answer Found
+searchOver G job code = pick (eqb code 0) (outcomeOf G job (firstGood (problemOver G job))) (refused code)
 
 -- "after the job's checks: is the answer buffer at least 15 bytes? If not, 13."
 unfoldable pub searchCode : List ℕ → ℕ → ℕ
 searchCode job room = andThen (jobCode job) (rule (leb 15 room) 13 0)
 
 unfoldable pub searchOf : List ℕ → ℕ → Answer Found
-searchOf job room = pick (eqb (searchCode job room) 0) (outcomeOf job (firstGood (problemOf job))) (refused (searchCode job room))
+searchOf job room = searchOver (ownSet job) job (searchCode job room)
 
 -- "its length (3 bytes and one a gate) and its three measures are returned"
 pub record Reported : Type 0 where

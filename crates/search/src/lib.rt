@@ -11,8 +11,8 @@ ghost use Rattle.record.specs.Jobs.{priceOf, durationOf, jobCode};
 ghost use Rattle.verify.specs.Calls.{measuresOf};
 ghost use Rattle.choice.specs.Inner.{view};
 ghost use Rattle.problem.specs.Problems.{firstGood};
-ghost use Rattle.search.specs.Outcomes.{problemOf, searchCode, searchOf, reported, written, searchedAnswer, sizeIn};
-ghost use Rattle.search.specs.Inner.{taskOf, alwaysNone};
+ghost use Rattle.search.specs.Outcomes.{GateSet, problemOver, problemOf, searchCode, searchOf, reported, written, searchedAnswer, sizeIn};
+ghost use Rattle.search.specs.Inner.{taskOf, alwaysNone, Lawfuls, Tabled, toldOf};
 
 // What the search answers: a refusal's number, or the record's length and measures.
 pub enum Searched {
@@ -59,27 +59,44 @@ fn task_of(job: &[u8]) -> Task
     }
 }
 
-// The first good choice of a well-formed job.
-fn first_good(job: &[u8]) -> Best
+// The first good choice of a well-formed job among the first gates of a table, at their prices and durations.
+pub fn solve_among(
+    job: &[u8],
+    count: usize,
+    gates: [u8; 75],
+    prices: [u8; 75],
+    durations: [u8; 75],
+) -> Best
     requires { ⌜ jobCode (now job) ≡ 0 ⌝ }
-    ensures { λ r. ⌜ view r ≡ firstGood (problemOf (now (job .entry))) ⌝ }
+    requires { ⌜ count ≤ 75 ⌝ }
+    requires { ⌜ Lawfuls (now job) (take count gates) ⌝ }
+    ensures { λ r. ⌜ ((G : GateSet) → Tabled G gates prices durations count → view r ≡ firstGood (problemOver G (now (job .entry)))) ⌝ }
     ensures { λ r. ⌜ r .len ≤ 12 ⌝ }
 {
     if always_none(job) {
         return choice::nothing();
     }
-    let most = record::most_controls(job);
-    let wires = record::wires(job);
-    let count = gate::gate_count(most, wires);
-    let gates = gate::gate_table(most, wires);
-    let prices = weigh(record::prices(job), &gates[..count]);
-    let durations = weigh(record::durations(job), &gates[..count]);
     solver::solve(
         &gates[..count],
         &prices[..count],
         &durations[..count],
         task_of(job),
     )
+}
+
+// The first good choice of a well-formed job.
+fn first_good(job: &[u8]) -> Best
+    requires { ⌜ jobCode (now job) ≡ 0 ⌝ }
+    ensures { λ r. ⌜ view r ≡ firstGood (problemOf (now (job .entry))) ⌝ }
+    ensures { λ r. ⌜ r .len ≤ 12 ⌝ }
+{
+    let most = record::most_controls(job);
+    let wires = record::wires(job);
+    let count = gate::gate_count(most, wires);
+    let gates = gate::gate_table(most, wires);
+    let prices = weigh(record::prices(job), &gates[..count]);
+    let durations = weigh(record::durations(job), &gates[..count]);
+    solve_among(job, count, gates, prices, durations)
 }
 
 // The measures of the first gates of a path, as `verify` takes them.
@@ -96,6 +113,25 @@ fn search_code(job: &[u8], room: usize) -> u8
     logic::and_then(record::job_code(job), logic::rule(15 <= room, 13, 0))
 }
 
+// Writes the first good choice of a job to `answer`, and tells of it with its measures.
+pub fn tell(job: &[u8], best: Best, measures: Measures, answer: &mut [u8]) -> Searched
+    requires { ⌜ best .len ≤ 12 ⌝ }
+    requires { ⌜ 15 ≤ length (now answer) ⌝ }
+    ensures { λ r. ⌜ searchedAnswer r ≡ reported (toldOf (now (job .entry)) measures (view best)) ⌝ }
+    ensures { λ r. ⌜ sizeIn r ≤ 15 ⌝ }
+    ensures { λ _. ⌜ now (answer .exit) ≡ written (toldOf (now (job .entry)) measures (view best)) (now (answer .entry)) ⌝ }
+{
+    if !best.found {
+        return Searched::Refused(14);
+    }
+    let n = record::data_wires(job);
+    let m = record::ancillas(job);
+    let mark = record::longer(job);
+    let path = best.path;
+    let size = record::write_record(n, m, mark, best.layout, path, best.len, answer);
+    Searched::Found(size, measures)
+}
+
 // Searches for the first circuit by cost, gates, depth, layout and gate bytes, and writes it to `answer`.
 pub fn search(job: &[u8], answer: &mut [u8]) -> Searched
     ensures { λ r. ⌜ searchedAnswer r ≡ reported (searchOf (now (job .entry)) (length (now (answer .entry)))) ⌝ }
@@ -107,15 +143,7 @@ pub fn search(job: &[u8], answer: &mut [u8]) -> Searched
         return Searched::Refused(code);
     }
     let best = first_good(job);
-    if !best.found {
-        return Searched::Refused(14);
-    }
     let path = best.path;
-    let len = best.len;
-    let measures = measures_of(job, path, len);
-    let n = record::data_wires(job);
-    let m = record::ancillas(job);
-    let mark = record::longer(job);
-    let size = record::write_record(n, m, mark, best.layout, path, len, answer);
-    Searched::Found(size, measures)
+    let measures = measures_of(job, path, best.len);
+    tell(job, best, measures, answer)
 }

@@ -24,6 +24,7 @@ fn main() {
     run_file(b"marked");
     run_file(b"search");
     run_file(b"lines");
+    run_file(b"library");
 }
 
 fn say(text: &[u8]) {
@@ -87,9 +88,11 @@ fn is_call(line: &[u8]) -> bool {
     let from = past(line, a);
     let b = find(line, from, b' ');
     let to = past(line, b);
+    let c = find(line, to, b' ');
     let letter = logic::at(line, 0);
-    let words = logic::both(is_word(&line[from..b]), second_ok(letter, &line[to..]));
-    logic::both(is_name(letter, &line[0..a]), words)
+    let words = logic::both(is_word(&line[from..b]), second_ok(letter, &line[to..c]));
+    let rest = third_ok(letter, &line[c..]);
+    logic::both(is_name(letter, &line[0..a]), logic::both(words, rest))
 }
 
 fn is_name(letter: u8, name: &[u8]) -> bool {
@@ -104,11 +107,13 @@ fn is_name(letter: u8, name: &[u8]) -> bool {
         b'p' => same(name, b"parity"),
         b's' => same(name, b"search"),
         b'l' => same(name, b"line"),
+        b'a' => same(name, b"among"),
+        b'w' => same(name, b"with"),
         _ => false,
     }
 }
 
-// What stands after the first word: a byte for a run and a search, a record for two calls, nothing for the others.
+// What stands after the first word: a byte for a run and a search, a record or a library for four calls, nothing for the others.
 fn second_ok(letter: u8, rest: &[u8]) -> bool {
     match letter {
         b'f' => is_byte(rest),
@@ -116,6 +121,17 @@ fn second_ok(letter: u8, rest: &[u8]) -> bool {
         b's' => is_byte(rest),
         b'm' => is_word(rest),
         b'v' => is_word(rest),
+        b'a' => is_word(rest),
+        b'w' => is_word(rest),
+        _ => rest.len() == 0,
+    }
+}
+
+// What stands after the second word: with a library a space, and then a byte for a search, a record for verifying.
+fn third_ok(letter: u8, rest: &[u8]) -> bool {
+    match letter {
+        b'a' => is_byte(&rest[past(rest, 0)..]),
+        b'w' => is_word(&rest[past(rest, 0)..]),
         _ => rest.len() == 0,
     }
 }
@@ -166,21 +182,31 @@ fn same(a: &[u8], b: &[u8]) -> bool {
     true
 }
 
-// Runs a call: its name, and one or two words of bytes.
+// Runs a call: its name, and one to three words of bytes.
 fn run_call(line: &[u8]) {
     let a = find(line, 0, b' ');
     let from = past(line, a);
     let b = find(line, from, b' ');
     let to = past(line, b);
+    let c = find(line, to, b' ');
     let mut first = io::buffer();
     let mut second = io::buffer();
     let n = decode(&line[from..b], &mut first);
-    let m = decode(&line[to..], &mut second);
-    dispatch(logic::at(line, 0), &first[..n], &second[..m]);
+    let m = decode(&line[to..c], &mut second);
+    with_third(line, past(line, c), &first[..n], &second[..m]);
+}
+
+// The third word, which begins at `at`.
+fn with_third(line: &[u8], at: usize, first: &[u8], second: &[u8])
+    requires { ⌜ at ≤ length (now line) ⌝ }
+{
+    let mut third = io::buffer();
+    let k = decode(&line[at..], &mut third);
+    dispatch(logic::at(line, 0), first, second, &third[..k]);
 }
 
 // Each call by its first letter, which no other call has.
-fn dispatch(letter: u8, first: &[u8], second: &[u8]) {
+fn dispatch(letter: u8, first: &[u8], second: &[u8], third: &[u8]) {
     match letter {
         b'j' => say_checked(record::check_job(first)),
         b'c' => say_checked(record::check_circuit(first)),
@@ -190,8 +216,10 @@ fn dispatch(letter: u8, first: &[u8], second: &[u8]) {
         b'm' => say_measured(verify::measure(first, second)),
         b'v' => say_measured(verify::verify(first, second)),
         b'p' => say_parity(parity::parity(first)),
-        b's' => say_search(first, logic::at(second, 0)),
+        b's' => say_search(first, second, false, logic::at(second, 0)),
         b'l' => say_line(first),
+        b'a' => say_search(first, second, true, logic::at(third, 0)),
+        b'w' => say_measured(library::verify_with(first, second, third)),
         _ => say(b"unknown"),
     }
 }
@@ -313,21 +341,30 @@ fn say_parity(answer: TableParity) {
 }
 
 // Searches with an answer buffer of `room` bytes, each different, and writes the answer and the whole buffer.
-fn say_search(job: &[u8], room: u8) {
+fn say_search(job: &[u8], library: &[u8], among: bool, room: u8) {
     let mut buffer = numbered();
-    search_into(job, &mut buffer, room as usize);
+    search_into(job, library, among, &mut buffer, room as usize);
 }
 
-fn search_into(job: &[u8], buffer: &mut [u8], n: usize) {
+fn search_into(job: &[u8], library: &[u8], among: bool, buffer: &mut [u8], n: usize) {
     if n <= buffer.len() {
-        search_whole(job, &mut buffer[..n]);
+        search_whole(job, library, among, &mut buffer[..n]);
     }
 }
 
-fn search_whole(job: &[u8], answer: &mut [u8]) {
-    say_searched(search::search(job, answer));
+fn search_whole(job: &[u8], library: &[u8], among: bool, answer: &mut [u8]) {
+    say_searched(search_one(job, library, among, answer));
     say(b" ");
     say_bytes(answer);
+}
+
+// Among the gates of a library, or among the job's own.
+fn search_one(job: &[u8], library: &[u8], among: bool, answer: &mut [u8]) -> Searched {
+    if among {
+        library::search_with(job, library, answer)
+    } else {
+        search::search(job, answer)
+    }
 }
 
 // A buffer whose byte i is 0xA0 + i, modulo 256.

@@ -44,7 +44,8 @@ module _ (job c : List ℕ) where
       by-mark false false h = omega arith
 
   module _ (hj : jobCode job ≡ 0) (hc : circuitCode c ≡ 0) (same : sameWires job c ≡ true) (fits : markFits job c ≡ true) where
-    lawful-here : allOf (lawful (mostControls job) (wires job)) (gates c) ≡ true
+    -- the gates of the circuit are lawful for the job
+    pub lawful-here : allOf (lawful (mostControls job) (wires job)) (gates c) ≡ true
     lawful-here =
         rw (wires-same same)
         (all-widen (controlsOf c) (wires c) (mostControls job) (wires c) (no-more fits) (omega arith) (gates c) (sound-circuit c hc .kept))

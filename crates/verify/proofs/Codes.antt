@@ -7,14 +7,14 @@ use native.Mathlib.Nat.{lt-of-lt-of-le}
 use borrow.Author.Tests.{ltb-true}
 use lib.Dec.{ltb, lit<}
 use lib.Pow.{pow-mono}
-use Rattle.logic.specs.Rules.{pick, rule, andThen}
+use Rattle.logic.specs.Rules.{pick, rule}
 use Rattle.logic.proofs.Chain.{and-then-zero, rule-kept}
 use Rattle.circuit.specs.Run.{forwards, backwards}
 use Rattle.circuit.proofs.Reversal.{stays, stays-back}
 use Rattle.record.specs.Jobs.{wires, jobCode}
 use Rattle.record.specs.Circuits.{controlsOf, gates, circuitCode}
 use Rattle.record.proofs.Kept.{sound-circuit, circuit-wires-within}
-use Rattle.verify.specs.Calls.{runCode, sameWires, markFits, measureCode}
+use Rattle.verify.specs.Calls.{runCode, sameWires, markFits, circuitCodeFor, measureCode}
 
 module _ (c : List ℕ) where
   run-parts : (v : ℕ) → runCode c v ≡ 0 → (circuitCode c ≡ 0) × (v < 2 ^ wires c)
@@ -33,11 +33,17 @@ module _ (c : List ℕ) where
       lt-of-lt-of-le (stays-back (controlsOf c) (wires c) (gates c) v (sound-circuit c (p .0) .kept) (p .1))
       (pow-mono (circuit-wires-within c (p .0) .1))
 
-pub measure-parts : (job c : List ℕ) → measureCode job c ≡ 0 → (jobCode job ≡ 0) × ((circuitCode c ≡ 0) × ((sameWires job c ≡ true) × (markFits job c ≡ true)))
-unfolding measureCode
-measure-parts job c h =
-    let rest = rule (sameWires job c) 12 (rule (markFits job c) 28 0) in
-    let p = and-then-zero (jobCode job) (andThen (circuitCode c) rest) h in
-    let q = and-then-zero (circuitCode c) rest (p .1) in
+pub circuit-parts : (job c : List ℕ) → circuitCodeFor job c ≡ 0 → (circuitCode c ≡ 0) × ((sameWires job c ≡ true) × (markFits job c ≡ true))
+unfolding circuitCodeFor
+circuit-parts job c h =
+    let q = and-then-zero (circuitCode c) (rule (sameWires job c) 12 (rule (markFits job c) 28 0)) h in
     let k = rule-kept (sameWires job c) 12 (rule (markFits job c) 28 0) (lit< tt) (q .1) in
-    (p .0, (q .0, (k .0, rule-kept (markFits job c) 28 0 (lit< tt) (k .1) .0)))
+    (q .0, (k .0, rule-kept (markFits job c) 28 0 (lit< tt) (k .1) .0))
+
+-- a well-formed job, a sound circuit, the job's wires, and a mark that fits
+abbrev pub Parts : List ℕ → List ℕ → Type 0
+Parts job c = (jobCode job ≡ 0) × ((circuitCode c ≡ 0) × ((sameWires job c ≡ true) × (markFits job c ≡ true)))
+
+pub measure-parts : (job c : List ℕ) → measureCode job c ≡ 0 → Parts job c
+unfolding measureCode
+measure-parts job c h = let p = and-then-zero (jobCode job) (circuitCodeFor job c) h in (p .0, circuit-parts job c (p .1))

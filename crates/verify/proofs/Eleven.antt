@@ -15,7 +15,8 @@ use Rattle.table.specs.Rows.{agrees, clean}
 use Rattle.record.specs.Jobs.{dataWires, wires, freeLayout, gateLimit, costLimit, depthLimit, rows, jobCode}
 use Rattle.record.specs.Circuits.{layoutOf, gates, circuitCode}
 use Rattle.record.proofs.Eleven.{circuit-never, job-never}
-use Rattle.verify.specs.Calls.{runCode, runOf, measuresFor, sameWires, markFits, measureCode, measureOf}
+use Rattle.verify.specs.declared.Measures.{Measures}
+use Rattle.verify.specs.Calls.{runCode, runOf, measuresFor, sameWires, markFits, circuitCodeFor, measureCode, measureOf}
 use Rattle.verify.specs.Calls.{limitsCode, verifyRest, verifyCode, verifyOf}
 
 pub run-never : (forth : Bool) (c : List ℕ) (v : ℕ) → runOf forth c v ≡ refused 11 → ⊥
@@ -25,28 +26,30 @@ run-never forth c v h =
     (refused-is (runCode c v) (pick forth (forwards (gates c) v) (backwards (gates c) v)) 11 h)
 
 module _ (job c : List ℕ) where
+  pub circuit-for-never : circuitCodeFor job c ≡ 11 → ⊥
+  unfolding circuitCodeFor
+  circuit-for-never =
+      and-then-never 11 (circuitCode c) _ (circuit-never c)
+      (rule-never 11 (sameWires job c) 12 _ (λ e. omega arith)
+      (rule-never 11 (markFits job c) 28 0 (λ e. omega arith) (λ e. omega arith)))
+
   measure-code-never : measureCode job c ≡ 11 → ⊥
   unfolding measureCode
-  measure-code-never =
-      and-then-never 11 (jobCode job) _ (job-never job)
-      (and-then-never 11 (circuitCode c) _ (circuit-never c)
-      (rule-never 11 (sameWires job c) 12 _ (λ e. omega arith)
-      (rule-never 11 (markFits job c) 28 0 (λ e. omega arith) (λ e. omega arith))))
+  measure-code-never = and-then-never 11 (jobCode job) _ (job-never job) circuit-for-never
 
-  limits-never : limitsCode job c ≡ 11 → ⊥
+  limits-never : (m : Measures) → limitsCode job m ≡ 11 → ⊥
   unfolding limitsCode
-  limits-never =
-      let m = measuresFor job c in
+  limits-never m =
       rule-never 11 (leb (m .gates) (gateLimit job)) 17 _ (λ e. omega arith)
       (rule-never 11 (leb (m .cost) (costLimit job)) 18 _ (λ e. omega arith)
       (rule-never 11 (leb (m .depth) (depthLimit job)) 19 0 (λ e. omega arith) (λ e. omega arith)))
 
-  rest-never : verifyRest job c ≡ 11 → ⊥
+  pub rest-never : (m : Measures) → verifyRest job c m ≡ 11 → ⊥
   unfolding verifyRest
-  rest-never =
+  rest-never m =
       rule-never 11 (allowed (dataWires job) (freeLayout job) (layoutOf c)) 15 _ (λ e. omega arith)
       (rule-never 11 (agrees (layoutOf c) (forwards (gates c)) (rows job)) 16 _ (λ e. omega arith)
-      (rule-never 11 (clean (dataWires job) (forwards (gates c))) 24 _ (λ e. omega arith) limits-never))
+      (rule-never 11 (clean (dataWires job) (forwards (gates c))) 24 _ (λ e. omega arith) (limits-never m)))
 
   pub measure-never : measureOf job c ≡ refused 11 → ⊥
   unfolding measureOf
@@ -55,5 +58,5 @@ module _ (job c : List ℕ) where
   pub verify-never : verifyOf job c ≡ refused 11 → ⊥
   unfolding verifyOf verifyCode
   verify-never h =
-      and-then-never 11 (measureCode job c) (verifyRest job c) measure-code-never rest-never
+      and-then-never 11 (measureCode job c) (verifyRest job c (measuresFor job c)) measure-code-never (rest-never (measuresFor job c))
       (refused-is (verifyCode job c) (measuresFor job c) 11 h)

@@ -35,23 +35,23 @@ module _ (price duration : ℕ → ℕ) where
   unfolding measuresOf
   depth-is gs = ap greatest (sym (ready-is gs))
 
-module _ (job c : List ℕ) where
-  timed : circuitCode c ≡ 0 → Timed (wires c) (measuresFor job c)
-  timed sound = record {
-    greatest-ready = depth-is (priceOf job) (durationOf job) (gates c);
+  pub timed : (c : List ℕ) → circuitCode c ≡ 0 → Timed (wires c) (measuresOf price duration (gates c))
+  timed c sound = record {
+    greatest-ready = depth-is (gates c);
     lacking = λ i h.
-        ap (λ (ts : List ℕ). getD ts i 0) (ready-is (priceOf job) (durationOf job) (gates c))
-        ∙ quiet-ready (durationOf job) (controlsOf c) (wires c) (circuit-wires-within c sound .1) (gates c) (sound-circuit c sound .kept) i h;
+        ap (λ (ts : List ℕ). getD ts i 0) (ready-is (gates c))
+        ∙ quiet-ready duration (controlsOf c) (wires c) (circuit-wires-within c sound .1) (gates c) (sound-circuit c sound .kept) i h;
   }
 
+module _ (job c : List ℕ) where
   pub measured-ready : (m : Measures) → measureOf job c ≡ answered m → Timed (wires c) m
   unfolding measureOf
   measured-ready m h =
       let a = answered-is (measureCode job c) (measuresFor job c) m h in
-      rw (a .1) (timed (measure-parts job c (a .0) .1 .0))
+      rw (a .1) (timed (priceOf job) (durationOf job) c (measure-parts job c (a .0) .1 .0))
 
   pub verified-ready : (m : Measures) → verifyOf job c ≡ answered m → Timed (wires c) m
   unfolding verifyOf
   verified-ready m h =
       let a = answered-is (verifyCode job c) (measuresFor job c) m h in
-      rw (a .1) (timed (code-passes job c (a .0) .circuit-sound))
+      rw (a .1) (timed (priceOf job) (durationOf job) c (code-passes job c (a .0) .circuit-sound))

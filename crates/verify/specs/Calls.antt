@@ -74,9 +74,13 @@ sameWires job c = both (eqb (dataWires job) (dataWires c)) (eqb (ancillas job) (
 unfoldable pub markFits : List ℕ → List ℕ → Bool
 markFits job c = implies (marked c) (longer job)
 
--- "the job's checks, the circuit's, then 12", and 28
+-- "the circuit's, then 12", and 28: the checks of a circuit for a job
+unfoldable pub circuitCodeFor : List ℕ → List ℕ → ℕ
+circuitCodeFor job c = andThen (circuitCode c) (rule (sameWires job c) 12 (rule (markFits job c) 28 0))
+
+-- "the job's checks", then those
 unfoldable pub measureCode : List ℕ → List ℕ → ℕ
-measureCode job c = andThen (jobCode job) (andThen (circuitCode c) (rule (sameWires job c) 12 (rule (markFits job c) 28 0)))
+measureCode job c = andThen (jobCode job) (circuitCodeFor job c)
 
 unfoldable pub measureOf : List ℕ → List ℕ → Answer Measures
 measureOf job c = answerOf (measureCode job c) (measuresFor job c)
@@ -88,20 +92,21 @@ limitRules m mostGates mostCost mostDepth =
     (rule (leb (m .cost) mostCost) 18
     (rule (leb (m .depth) mostDepth) 19 0))
 
-unfoldable pub limitsCode : List ℕ → List ℕ → ℕ
-limitsCode job c = limitRules (measuresFor job c) (gateLimit job) (costLimit job) (depthLimit job)
+unfoldable pub limitsCode : List ℕ → Measures → ℕ
+limitsCode job m = limitRules m (gateLimit job) (costLimit job) (depthLimit job)
 
--- "Placing allowed? If not, 15. Table met? If not, 16." That keeps to the wanted bits. "24 in judging, ancilla not at 0, directly after 16"
-unfoldable pub verifyRest : List ℕ → List ℕ → ℕ
-verifyRest job c =
+-- "Placing allowed? If not, 15. Table met? If not, 16." That keeps to the wanted bits. "24 in judging, ancilla not at 0, directly after
+-- 16". Then the limits, for the circuit's measures
+unfoldable pub verifyRest : List ℕ → List ℕ → Measures → ℕ
+verifyRest job c m =
     rule (allowed (dataWires job) (freeLayout job) (layoutOf c)) 15
     (rule (agrees (layoutOf c) (forwards (gates c)) (rows job)) 16
     (rule (clean (dataWires job) (forwards (gates c))) 24
-    (limitsCode job c)))
+    (limitsCode job m)))
 
 -- "after the job's checks and then the circuit's": those of measuring, then the rest
 unfoldable pub verifyCode : List ℕ → List ℕ → ℕ
-verifyCode job c = andThen (measureCode job c) (verifyRest job c)
+verifyCode job c = andThen (measureCode job c) (verifyRest job c (measuresFor job c))
 
 -- "A pass returns the three measures", and with them the ready times
 unfoldable pub verifyOf : List ℕ → List ℕ → Answer Measures

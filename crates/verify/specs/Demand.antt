@@ -13,7 +13,8 @@ use Rattle.record.specs.Circuits.{layoutOf, gates, circuitCode}
 use Rattle.verify.specs.declared.Measures.{Measures}
 use Rattle.verify.specs.Calls.{readyOf, markFits}
 
-pub record Passes (job c : List ℕ) : Type 0 where
+-- at some prices and durations
+pub record PassesAt (price duration : ℕ → ℕ) (job c : List ℕ) : Type 0 where
   -- "after the job's checks and then the circuit's"
   pub job-sound : jobCode job ≡ 0
   pub circuit-sound : circuitCode c ≡ 0
@@ -28,8 +29,12 @@ pub record Passes (job c : List ℕ) : Type 0 where
   pub realized : realizes (dataWires job) (rows job) (layoutOf c) (gates c) ≡ true
   -- "within all limits (each limit is itself allowed)"
   pub gates-within : length (gates c) ≤ gateLimit job
-  pub cost-within : cost (priceOf job) (gates c) ≤ costLimit job
-  pub depth-within : depth (durationOf job) (gates c) ≤ depthLimit job
+  pub cost-within : cost price (gates c) ≤ costLimit job
+  pub depth-within : depth duration (gates c) ≤ depthLimit job
+
+-- at the job's own
+abbrev pub Passes : List ℕ → List ℕ → Type 0
+Passes job c = PassesAt (priceOf job) (durationOf job) job c
 
 -- the measures of a circuit of w wires
 pub record Timed (w : ℕ) (m : Measures) : Type 0 where

@@ -10,7 +10,7 @@ ghost use Rattle.record.specs.Jobs.{jobCode};
 ghost use Rattle.record.specs.Circuits.{circuitCode};
 ghost use Rattle.verify.specs.Calls.{ranAnswer, runCode, runOf, forwardsOf, backwardsOf};
 ghost use Rattle.verify.specs.Calls.{measuredAnswer, measuresWith, measuresOf, measuresFor};
-ghost use Rattle.verify.specs.Calls.{sameWires, markFits, measureCode, measureOf};
+ghost use Rattle.verify.specs.Calls.{sameWires, markFits, circuitCodeFor, measureCode, measureOf};
 ghost use Rattle.verify.specs.Calls.{limitRules, limitsCode, verifyRest, verifyOf};
 
 // Gates, cost and depth, and the ready time of each of five wires: 0 for a wire that the circuit lacks.
@@ -81,7 +81,7 @@ pub fn run_backwards(c: &[u8], value: u8) -> Ran
 }
 
 // The measures of so many gates, of this cost, with these ready times.
-fn measures_with(gates: u8, cost: u16, times: [u16; 5]) -> Measures
+pub fn measures_with(gates: u8, cost: u16, times: [u16; 5]) -> Measures
     ensures { λ r. ⌜ r ≡ measuresWith gates cost times ⌝ }
 {
     Measures {
@@ -123,15 +123,23 @@ fn mark_fits(job: &[u8], c: &[u8]) -> bool
     logic::implies(record::marked(c), record::longer(job))
 }
 
+// The rules of a circuit for a job: its own, then that it has the job's wires and no mark that the job has not.
+pub fn circuit_code_for(job: &[u8], c: &[u8]) -> u8
+    ensures { λ r. ⌜ r ≡ circuitCodeFor (now (job .entry)) (now (c .entry)) ⌝ }
+{
+    let code = record::circuit_code(c);
+    let same = same_wires(job, c);
+    let fits = mark_fits(job, c);
+    let rest = logic::rule(same, 12, logic::rule(fits, 28, 0));
+    logic::and_then(code, rest)
+}
+
 fn measure_code(job: &[u8], c: &[u8]) -> u8
     ensures { λ r. ⌜ r ≡ measureCode (now (job .entry)) (now (c .entry)) ⌝ }
 {
     let code = record::job_code(job);
-    let second = record::circuit_code(c);
-    let same = same_wires(job, c);
-    let fits = mark_fits(job, c);
-    let rest = logic::rule(same, 12, logic::rule(fits, 28, 0));
-    logic::and_then(code, logic::and_then(second, rest))
+    let rest = circuit_code_for(job, c);
+    logic::and_then(code, rest)
 }
 
 // The measures of a sound circuit at a job's prices and durations.
@@ -165,29 +173,27 @@ fn limit_rules(m: Measures, most_gates: usize, most_cost: usize, most_depth: usi
     logic::rule(m.gates as usize <= most_gates, 17, dear)
 }
 
-fn limits_code(job: &[u8], c: &[u8]) -> u8
-    requires { ⌜ circuitCode (now c) ≡ 0 ⌝ }
-    ensures { λ r. ⌜ r ≡ limitsCode (now (job .entry)) (now (c .entry)) ⌝ }
+fn limits_code(job: &[u8], m: Measures) -> u8
+    ensures { λ r. ⌜ r ≡ limitsCode (now (job .entry)) m ⌝ }
 {
     limit_rules(
-        measures_for(job, c),
+        m,
         record::gate_limit(job),
         record::cost_limit(job),
         record::depth_limit(job),
     )
 }
 
-// The rules of verifying after those of measuring.
-fn verify_rest(job: &[u8], c: &[u8]) -> u8
+// The rules of verifying after those of measuring, for a circuit with these measures.
+pub fn verify_rest(job: &[u8], c: &[u8], m: Measures) -> u8
     requires { ⌜ jobCode (now job) ≡ 0 ⌝ }
-    requires { ⌜ circuitCode (now c) ≡ 0 ⌝ }
-    ensures { λ r. ⌜ r ≡ verifyRest (now (job .entry)) (now (c .entry)) ⌝ }
+    ensures { λ r. ⌜ r ≡ verifyRest (now (job .entry)) (now (c .entry)) m ⌝ }
 {
     let p = record::layout_of(c);
     let agreed = table::agrees(p, record::gate_list(c), record::table(job));
     let allowed = table::allowed(record::data_wires(job), record::free_layout(job), p);
     let clean = table::clean(record::data_wires(job), record::gate_list(c));
-    let limits = limits_code(job, c);
+    let limits = limits_code(job, m);
     let met = logic::rule(agreed, 16, logic::rule(clean, 24, limits));
     logic::rule(allowed, 15, met)
 }
@@ -200,9 +206,10 @@ pub fn verify(job: &[u8], c: &[u8]) -> Measured
     if code != 0 {
         return Measured::Refused(code);
     }
-    let rest = verify_rest(job, c);
+    let m = measures_for(job, c);
+    let rest = verify_rest(job, c, m);
     if rest != 0 {
         return Measured::Refused(rest);
     }
-    Measured::Within(measures_for(job, c))
+    Measured::Within(m)
 }

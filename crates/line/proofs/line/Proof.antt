@@ -1,5 +1,5 @@
 -- Each answer of the search is turned into its line; the record found fits the fifteen bytes lent.
-use mathlib.Core.Path.{sym}
+use mathlib.Core.Path.{sym, ap}
 use Prim.Native.Nat.{_≤_}
 use native.Mathlib.Omega.{arith}
 use borrow.Author.Needs.{needs}
@@ -7,8 +7,8 @@ use lib.ListN.{length, take}
 use lib.Seq.{length-take-le}
 use Rattle.text.proofs.Pieces.{refused-short, found-short}
 use Rattle.search.specs.Outcomes.{searchOf}
-use Rattle.line.specs.Lines.{lineOf}
-use Rattle.line.proofs.Ways.{when-refused, when-found}
+use Rattle.search.proofs.Told.{when-refused, when-found}
+use Rattle.line.specs.Lines.{lineFor, lineOf}
 use Rattle.line.proofs.line.Statement.{statement}
 use Rattle.line.proofs.line.Tie as tie
 
@@ -38,7 +38,7 @@ returns c =
     let z = r .before .before .before in
     let q = z .before .before .before in
     let s = q .before .before .before .before in
-    let e = when-refused (searchOf (s .args .job .now) 15) (q .search .result) (z .code .given .0 .0) (q .search .ensures .0) (z .code .given .1) in
+    let e = ap lineFor (when-refused (searchOf (s .args .job .now) 15) (q .search .result) (z .code .given .0 .0) (q .search .ensures .0) (z .code .given .1)) in
     (rw e (r .refused-line .ensures .0), (rw (r .refused-line .ensures .0) (refused-short (z .code .given .0 .0)), rw e (r .refused-line .ensures .1)))
 
 returns-2 : tie.Need-returns-2
@@ -48,7 +48,7 @@ returns-2 c =
     let z = r .before .before .before .before in
     let q = z .before .before .before in
     let s = q .before .before .before .before in
-    let e = when-found (searchOf (s .args .job .now) 15) (q .search .result) (z .size .given .0 .0) _ _ (q .search .last .1 .0) (q .search .ensures .0) (z .size .given .1) (q .search .ensures .1 .1) in
+    let e = ap lineFor (when-found (searchOf (s .args .job .now) 15) (q .search .result) (z .size .given .0 .0) _ _ (q .search .last .1 .0) (q .search .ensures .0) (z .size .given .1) (q .search .ensures .1 .1)) in
     (rw e (r .found-line .ensures .0), (rw (r .found-line .ensures .0) (found-short _ (take (z .size .given .0 .0) (q .search .last .1 .0)) (rw (length-take-le (z .size .given .0 .0) (q .search .last .1 .0) (within z)) (small z))), rw e (r .found-line .ensures .1)))
 
 pub line-spec : {M : Type 1} → statement M

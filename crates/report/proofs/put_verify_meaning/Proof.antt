@@ -55,7 +55,7 @@ returns-9 c =
       ne-eqb x 18 (r .0 .1),
       ne-eqb x 19 (r .1),
     )
-    (p .put-other-meaning .ensures)
+    (p .put-library-meaning .ensures)
 
 pub put-verify-meaning-spec : {M : Type 1} → statement M
 put-verify-meaning-spec =

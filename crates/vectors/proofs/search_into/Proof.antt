@@ -6,7 +6,7 @@ use Rattle.vectors.proofs.search_into.Tie as tie
 
 slice-aggregate-search-whole : tie.Need-slice-aggregate-search-whole
 slice-aggregate-search-whole c =
-    let s = c .before .before .before .before in
+    let s = c .before .before .before .before .before in
     sym (length-take-le (s .args .n) (s .args .buffer .now) (c .before .if1 .taken))
 
 pub search-into-spec : {M : Type 1} → statement M

@@ -7,12 +7,9 @@ use Rattle.verify.proofs.limits_code.Tie as tie
 returns : tie.Need-returns
 unfolding limitsCode
 returns c =
-    let s = c .before .before .before in
+    let g = c .before .before .before in
     c .limit-rules .ensures
-    ∙ (λ i. limitRules (s .before .measures-for .ensures i) (s .gate-limit .ensures i) (c .before .before .cost-limit .ensures i)
-    (c .before .depth-limit .ensures i))
+    ∙ (λ i. limitRules (g .before .before .args .m) (g .gate-limit .ensures i) (c .before .before .cost-limit .ensures i) (c .before .depth-limit .ensures i))
 
 pub limits-code-spec : {M : Type 1} → statement M
-limits-code-spec =
-    tie.close
-    (tie.spec (λ c κs. search needs) (λ c κs. search needs) (λ c κs. search needs) (λ c κs. search needs) (λ c κs. search needs) returns)
+limits-code-spec = tie.close (tie.spec (λ c κs. search needs) (λ c κs. search needs) (λ c κs. search needs) (λ c κs. search needs) returns)

@@ -13,7 +13,7 @@ use Rattle.verify.proofs.verify_rest.Tie as tie
 allowed-requires : tie.Need-allowed-requires
 allowed-requires c κs =
     let s = c .before .before .before .before .before .before .before .before in
-    rw (c .before .data-wires .ensures .0) (sound-job (s .args .job .now) (s .pre .0) .width)
+    rw (c .before .data-wires .ensures .0) (sound-job (s .args .job .now) (s .pre) .width)
 
 returns : tie.Need-returns
 unfolding verifyRest

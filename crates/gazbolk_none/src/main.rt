@@ -1,0 +1,4 @@
+// The same program, on a search that finds nothing.
+fn main() {
+    commands::run();
+}

@@ -1,0 +1,4 @@
+pub mod Library
+pub mod Calls
+pub mod Demand
+pub mod Inner

@@ -2,11 +2,13 @@
 """Runs several searches on the same random small jobs and compares their lines.
 
 usage: compare.py [MAIN_BINARY] [--count N] [--seed N] [--deep]
+       compare.py GAZBOLK --libraries [--count N] [--seed N]
 
 With MAIN_BINARY (the proved program): that program, plain.rs at --rules full, and brute.rs.
 Every second job has a gate limit beyond brute.rs, which sits out. Without: plain.rs at every
 level (base, full, max, and max with the reach filters forced on small jobs) and brute.rs; with
---deep the gate limits are larger and the base level is the measure instead of brute.rs.
+--deep the gate limits are larger and the base level is the measure instead of brute.rs. With --libraries:
+`gazbolk search JOB LIBRARY` and tools/reference.py, on jobs of at most 3 gates with small libraries.
 
 The jobs: 3 and 4 data wires, with and without ancilla, both layouts, gates of at most two controls
 and (every second job) of three, care masks of all shapes, prices from 0, tight cost and depth
@@ -18,12 +20,17 @@ import os
 import random
 import subprocess
 import sys
+import tempfile
 
 HERE = os.path.dirname(os.path.abspath(__file__))
+sys.path.insert(0, os.path.join(os.path.dirname(HERE), "tools"))
+import reference  # noqa: E402
+
 OUT = os.path.join(os.path.dirname(HERE), "target")
 LEVELS = ["base", "full", "max", "max --reach 0,1", "max --reach 0,2", "max --reach 0,3"]
 # Greatest gate limit by number of wires, and its weights from 0 up.
 LIMITS = {3: [1, 2, 4, 8, 8, 2], 4: [1, 3, 6, 12, 1], 5: [1, 3, 8, 4]}
+LIBRARY_LIMITS = {wires: [1, 2, 4, 4] for wires in (3, 4, 5)}
 DEEP_LIMITS = {3: [0, 0, 0, 0, 0, 3, 3, 1], 4: [0, 0, 0, 0, 4, 3, 1], 5: [0, 0, 0, 2, 2]}
 
 
@@ -179,6 +186,68 @@ def random_jobs(rng, count, deep):
             made += 1
 
 
+def random_library(rng, job):
+    """A few gates that are lawful for a sound job, rising, each with a price and a duration of its own; sometimes spoiled."""
+    asked = reference.read_job(job)
+    lawful = reference.gate_table(asked.n + asked.m, 3 if asked.longer else 2)
+    prices, durations = [0, 1, 1, 2, 5, 255], [1, 1, 2, 7, 255]
+    gates = sorted(rng.sample(lawful, rng.randrange(8)))
+    library = bytearray(byte for gate in gates for byte in (gate, rng.choice(prices), rng.choice(durations)))
+    if library and rng.random() < 0.1:
+        library[rng.randrange(len(library))] = rng.choice([0, rng.randrange(256)])
+    if rng.random() < 0.05:
+        library += bytes(rng.choice([1, 2, 3, 226]))
+    return bytes(library)
+
+
+def library_pair(rng):
+    """A job and a library. Half of the tables come from the library's own gates, so that there is something to find."""
+    job = random_job(rng, LIBRARY_LIMITS)
+    library = random_library(rng, job)
+    asked = reference.read_job(job)
+    if reference.check_library(job, library) == 0 and library and rng.random() < 0.5:
+        own = [entry[0] for entry in reference.entries_of(library)]
+        gates = [rng.choice(own) for _ in range(asked.limits.gates)]
+        least = rng.choice([0, 2 ** asked.n - 1])  # care masks as they are, or full
+        cares = [care | least for care, _ in asked.rows]
+        rows = [care << 4 | reference.run(gates, x) & care for x, care in enumerate(cares)]
+        job = job[:-len(rows)] + bytes(rows)
+    return (spoiled(rng, job) if rng.random() < 0.05 else job), library
+
+
+def reference_line(job, library):
+    """The first line that `gazbolk search` has to print, by the model that tries every list."""
+    code, record = reference.search_with_call(job, library, 15)
+    if code:
+        return f"refused {code}"
+    price, duration = ({entry[0]: entry[i] for entry in reference.entries_of(library)} for i in (1, 2))
+    measures = reference.measures_by(reference.read_circuit(record).gates, price, duration)
+    return "found {} {} {} {}".format(*measures, record.hex().upper())
+
+
+def compare_libraries(gazbolk, count, seed):
+    """Prints each difference, then the counts; the number of differences."""
+    rng, counts, differ = random.Random(seed), {}, 0
+    with tempfile.TemporaryDirectory() as folder:
+        paths = [os.path.join(folder, name) for name in ("job", "library")]
+        for _ in range(count):
+            pair = library_pair(rng)
+            for path, content in zip(paths, pair):
+                with open(path, "wb") as file:
+                    file.write(content)
+            line = line_of([gazbolk, "search"] + paths, b"").split("\n")[0]
+            expected = reference_line(*pair)
+            counts[kind_of(expected)] = counts.get(kind_of(expected), 0) + 1
+            if line != expected:
+                differ += 1
+                print("DIFFERENCE", *(content.hex().upper() for content in pair))
+                print("   ", line, "from", gazbolk)
+                print("   ", expected, "from reference.py", flush=True)
+    print(f"seed {seed}: {count} jobs with libraries, {count - differ} agree, {differ} differ")
+    print(", ".join(f"{word}: {counts[word]}" for word in sorted(counts)))
+    return differ
+
+
 def kind_of(line):
     words = line.split()
     if words[0] == "found":
@@ -192,7 +261,12 @@ def main():
     parser.add_argument("--count", type=int, default=2000, help="number of jobs")
     parser.add_argument("--seed", type=int, default=1)
     parser.add_argument("--deep", action="store_true", help="larger gate limits, no brute.rs (without MAIN_BINARY)")
+    parser.add_argument("--libraries", action="store_true", help="MAIN_BINARY is gazbolk: searches with a library, and the model")
     args = parser.parse_args()
+    if args.libraries:
+        if not args.main_binary:
+            parser.error("--libraries needs the program gazbolk")
+        sys.exit(1 if compare_libraries(os.path.abspath(args.main_binary), args.count, args.seed) else 0)
     plain, brute = compile_program("plain"), [compile_program("brute")]
     if args.main_binary:
         programs = [[os.path.abspath(args.main_binary)], [plain, "--rules", "full"]]

@@ -1,7 +1,7 @@
 #!/usr/bin/env python3
 """The proved search, the plain one and a SAT solver side by side: one table, one run, one core.
 
-usage: run_bench.py MAIN_BINARY [--rules base|full|max] [--sboxes] [--no-sat] [--direct]
+usage: run_bench.py MAIN_BINARY [--rules base|full|max] [--sboxes] [--related] [--no-sat] [--direct]
                     [--cap SECONDS] [--repeat N] [--only TEXT] [--target FOLDER]
 
 MAIN_BINARY is the proved program (`target/bin/main`), or `-` for the others alone. plain.rs is
@@ -12,8 +12,9 @@ longer than --cap (wall clock) is ended and shows `> CAP`. The exit code is 1 if
 differ.
 
 Job sets: the default has jobs of 3, 4 and 5 wires within reach of the base rules, some of them longer ones; --sboxes has
-the S-boxes of source document 002 (limit 12, some with an ancilla), with plain.rs at --rules full, a cap of 20
-seconds, and cadical, if it is installed, on the questions of sat.py.
+the S-boxes of ciphers in the source documents 002 and 003 (fixed and free layout, prices 1,1,1 and 1,1,5, limit 12, and
+some with an ancilla), --related those of 003's Tables 6 to 9 and D2 in the same way. Both have plain.rs at --rules full,
+a cap of 20 seconds, and cadical, if it is installed, on the questions of sat.py.
 """
 import argparse
 import collections
@@ -28,9 +29,8 @@ import sat
 
 HERE = os.path.dirname(os.path.abspath(__file__))
 sys.path.insert(0, os.path.join(os.path.dirname(HERE), "tools"))
-from jobs import LONG, after, job, sbox  # noqa: E402
+from jobs import LONG, RELATED, SBOXES, after, by_table, job, sbox  # noqa: E402
 
-SBOXES = ["GIFT", "PRESENT", "RECTANGLE", "SKINNY", "MIDORI", "ELEPHANT", "LBLOCK", "UBLOCK"]
 WITH_ANCILLA = [("GIFT", 12), ("inverse", 9), ("inverse", 10), ("inverse", 11)]  # and their gate limits; free layout
 UNIT = (1, 1, 1)
 LIMIT = 12
@@ -69,10 +69,10 @@ def small_jobs():
     yield "W=4 longer 8, UBLOCK", job(sbox("UBLOCK"), 8, **LONG)
 
 
-def sbox_jobs():
-    """Name of the job, its bytes, and those of the same job at unit prices."""
-    tables = [(name, LIMIT, 0, free) for name in SBOXES for free in (0, 1)]
-    for name, limit, m, free in tables + [(name, limit, 1, 1) for name, limit in WITH_ANCILLA]:
+def sbox_jobs(tables, with_ancilla):
+    """Name of the job, its bytes, and those of the same job at unit prices. A table with several names comes once."""
+    plain = [(names[0], LIMIT, 0, free) for names in by_table(tables).values() for free in (0, 1)]
+    for name, limit, m, free in plain + [(name, limit, 1, 1) for name, limit in with_ancilla]:
         def record(prices):
             return job(sbox(name), limit, m=m, free=free, prices=prices)
 
@@ -214,16 +214,18 @@ def main():
     parser = argparse.ArgumentParser(description="The proved search, the plain one and a SAT solver side by side.")
     parser.add_argument("main_binary", help="the proved program, or - for the others alone")
     parser.add_argument("--rules", choices=["base", "full", "max"], default="full", help="of plain.rs; full has the rules of the program")
-    parser.add_argument("--sboxes", action="store_true", help="the S-boxes of 002 at limit 12")
+    parser.add_argument("--sboxes", action="store_true", help="the S-boxes of ciphers in 002 and 003 at limit 12")
+    parser.add_argument("--related", action="store_true", help="the S-boxes of 003's Tables 6 to 9 and D2 at limit 12")
     parser.add_argument("--no-sat", action="store_true", help="leave the SAT solver out")
     parser.add_argument("--direct", action="store_true", help="the direct SAT encoding instead of the strong one")
-    parser.add_argument("--cap", type=float, help="seconds for a job and program: 60, with --sboxes 20")
+    parser.add_argument("--cap", type=float, help="seconds for a job and program: 60, with --sboxes or --related 20")
     parser.add_argument("--repeat", type=int, default=1, help="runs of each; the least time counts")
     parser.add_argument("--only", default="", help="only the jobs whose name holds this text")
     parser.add_argument("--target", help="folder for the compiled plain.rs")
     args = parser.parse_args()
     rules = args.rules
-    cap = args.cap or (20 if args.sboxes else 60)
+    boxes = args.sboxes or args.related
+    cap = args.cap or (20 if boxes else 60)
     if hasattr(os, "sched_setaffinity"):
         os.sched_setaffinity(0, {max(os.sched_getaffinity(0))})
     with tempfile.TemporaryDirectory() as folder:
@@ -233,11 +235,13 @@ def main():
         plain = [plain, "--rules", rules]
         proved = None if args.main_binary == "-" else [os.path.abspath(args.main_binary)]
         print(f"processor seconds, one core, least of {args.repeat}; plain.rs at --rules {rules}; cap {cap:g} s")
-        if args.sboxes:
+        if boxes:
             solver = None if args.no_sat else shutil.which("cadical")
             print(SBOX_HEADER.format(rules=rules, encoding="direct" if args.direct else "strong"))
             print("" if solver else "No SAT solver in this run.\n", flush=True)
-            jobs = [entry for entry in sbox_jobs() if args.only in entry[0]]
+            entries = list(sbox_jobs(SBOXES, WITH_ANCILLA)) if args.sboxes else []
+            entries += list(sbox_jobs(RELATED, [])) if args.related else []
+            jobs = [entry for entry in entries if args.only in entry[0]]
             agreed = sbox_table(proved, plain, solver, args.direct, jobs, cap, args.repeat)
         else:
             columns = ([("proved", proved)] if proved else []) + [("plain", plain)]

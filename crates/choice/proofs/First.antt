@@ -181,3 +181,12 @@ module _ (good : Choice → Bool) where
 
   pub nothing : (l : List Choice) → (improve good none l ≡ none) ↔ ((a : Choice) → List·Memᴰ a l → good a ≡ false)
   nothing l = (none-good l, λ h. improve-skip none l (λ a m. attempt-not none a (h a m)))
+
+  -- what a whole list leaves, each choice of it leaves
+  pub left-each : (x : Option Choice) (l : List Choice) → improve good x l ≡ x → (a : Choice) → List·Memᴰ a l → attempt good x a ≡ x
+  left-each none l e a m = attempt-not none a (none-good l e a m)
+  left-each (some c) l e a m = by-good (good a) refl
+    where
+      by-good : (t : Bool) → good a ≡ t → attempt good (some c) a ≡ some c
+      by-good true g = attempt-after a c (least (some c) l c e .good-after a m g)
+      by-good false g = attempt-not (some c) a g

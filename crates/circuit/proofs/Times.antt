@@ -23,7 +23,7 @@ use Rattle.gate.specs.Gates.{gateOf}
 use Rattle.circuit.specs.Measure.{controlsReady, start, holdControls, hold, holdByte, greatest, idle}
 
 -- whether a gate holds a wire
-abbrev holdsControl : Kind → ℕ → Bool
+abbrev pub holdsControl : Kind → ℕ → Bool
 holdsControl Not w = false
 holdsControl (Cnot a) w = eqb w a
 holdsControl (Toffoli a b) w = either (eqb w b) (eqb w a)
@@ -92,6 +92,16 @@ start-until g m ts h = by-kind (g .kind)
     by-kind (Toffoli a b) = omega (arith, h (g .target), h a, h b)
     by-kind (Cccnot a b c) = omega (arith, h (g .target), h a, h b, h c)
 
+-- a gate starts no later where no wire is ready later
+start-sooner : (g : Gate) (ts us : List ℕ) → Sooner ts us → start g ts ≤ start g us
+start-sooner g ts us s = by-kind (g .kind)
+  where
+    by-kind : (k : Kind) → max (getD ts (g .target) 0) (controlsReady k ts) ≤ max (getD us (g .target) 0) (controlsReady k us)
+    by-kind Not = omega (arith, s (g .target))
+    by-kind (Cnot a) = omega (arith, s (g .target), s a)
+    by-kind (Toffoli a b) = omega (arith, s (g .target), s a, s b)
+    by-kind (Cccnot a b c) = omega (arith, s (g .target), s a, s b, s c)
+
 -- a gate starts when all its wires are ready
 pub start-after : (g : Gate) (ts : List ℕ) (w : ℕ) → holds g w ≡ true → getD ts w 0 ≤ start g ts
 start-after g ts w h =
@@ -139,7 +149,32 @@ module _ (g : Gate) (d : ℕ) (ts : List ℕ) where
       inner w true = omega (arith, start-until g m ts u)
       inner w false = omega (arith, u w)
 
+  -- nor earlier than where the wires are ready sooner
+  pub hold-sooner : (us : List ℕ) → length ts ≡ length us → Sooner ts us → Sooner (hold g d ts) (hold g d us)
+  hold-sooner us l s =
+      wire-wise ts
+      (λ w h. let k : w < length us = omega arith in rw (hold-at g d ts w h, hold-at g d us w k) (inner w (holds g w)))
+      (λ w h. rw (hold-past g d ts w h) (omega arith))
+    where
+      inner : (w : ℕ) (t : Bool) → pick t (start g ts + d) (getD ts w 0) ≤ pick t (start g us + d) (getD us w 0)
+      inner w true = omega (arith, start-sooner g ts us s)
+      inner w false = s w
+
 module _ (duration : ℕ → ℕ) where
+  pub length-ready : (gs ts : List ℕ) → length (along (holdByte duration) gs ts) ≡ length ts
+  unfolding along
+  length-ready [] ts = refl
+  length-ready (b ∷ gs) ts = length-ready gs (holdByte duration b ts) ∙ length-hold (gateOf b) (duration b) ts
+
+  -- a list that starts no later ends no later
+  pub ready-sooner : (gs ts us : List ℕ) → length ts ≡ length us → Sooner ts us → Sooner (along (holdByte duration) gs ts) (along (holdByte duration) gs us)
+  unfolding along
+  ready-sooner [] ts us l s = s
+  ready-sooner (b ∷ gs) ts us l s =
+      ready-sooner gs (holdByte duration b ts) (holdByte duration b us)
+      (length-hold (gateOf b) (duration b) ts ∙ l ∙ sym (length-hold (gateOf b) (duration b) us))
+      (hold-sooner (gateOf b) (duration b) ts us l s)
+
   -- so the ready times of a list are never earlier than those of its front
   pub ready-rises : (gs ts : List ℕ) → Sooner ts (along (holdByte duration) gs ts)
   unfolding along

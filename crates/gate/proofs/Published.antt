@@ -62,7 +62,7 @@ added-low (Cccnot a b c) v h =
     let two = both (ltb a 5) (ltb b 5) in
     ap₂ _*_ (both-low a b v (both-left two (ltb c 5) h)) (bit-low c v (ltb-true c 5 (both-right two (ltb c 5) h)))
 
-fire-bit : (m v : ℕ) → m < 32 → ones m ≤ 3 → bit (fires m v) ≡ added (kindFor (ones m) m) v
+pub fire-bit : (m v : ℕ) → m < 32 → ones m ≤ 3 → bit (fires m v) ≡ added (kindFor (ones m) m) v
 fire-bit m v hm few =
     let k = kindFor (ones m) m in
     let r = implied (leb (ones m) 3) (both (inside k) (allBelow 32 (sameFire m))) (below 32 rightMask right-masks m hm) (le-leb (ones m) 3 few) in

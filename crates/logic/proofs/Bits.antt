@@ -1,4 +1,4 @@
--- Exclusive or and conjunction, bit by bit.
+-- Exclusive or, conjunction and disjunction, bit by bit.
 use mathlib.Core.Path.{_≡_, sym, ap, _∙_}
 use Prim.Native.Nat.{ℕ, zero, suc, _*_, _/_, _%_, _^_, _<_}
 use native.Mathlib.Omega.{arith}
@@ -6,7 +6,7 @@ use native.Mathlib.Nat.{one-mul}
 use native.Mathlib.Numerals.{one-add}
 use lib.Dec.{lit<}
 use lib.Pow.{shl-exact, pow-add, shr-shr}
-use lib.Bits.{bitAnd, bitXor, and-shr, and-mod, xor-shr, xor-mod}
+use lib.Bits.{bitAnd, bitOr, bitXor, and-shr, and-mod, or-shr, or-mod, xor-shr, xor-mod}
 use Rattle.logic.specs.Bit.{bitOf}
 
 pub bit-xor : (x a b : ℕ) → bitOf x (bitXor a b) ≡ bitXor (bitOf x a) (bitOf x b)
@@ -14,6 +14,9 @@ bit-xor x a b = ap (λ (n : ℕ). n % 2 ^ 1) (xor-shr a b x) ∙ xor-mod (a / 2 
 
 pub bit-and : (x a b : ℕ) → bitOf x (bitAnd a b) ≡ bitAnd (bitOf x a) (bitOf x b)
 bit-and x a b = ap (λ (n : ℕ). n % 2 ^ 1) (and-shr a b x) ∙ and-mod (a / 2 ^ x) (b / 2 ^ x) 1
+
+pub bit-or : (x a b : ℕ) → bitOf x (bitOr a b) ≡ bitOr (bitOf x a) (bitOf x b)
+bit-or x a b = ap (λ (n : ℕ). n % 2 ^ 1) (or-shr a b x) ∙ or-mod (a / 2 ^ x) (b / 2 ^ x) 1
 
 -- a one that is shifted within 64 bits
 pub shifted-one : (k : ℕ) → k < 64 → 1 * 2 ^ k % 2 ^ 64 ≡ 2 ^ k

@@ -36,6 +36,10 @@ module _ (f : ℕ → Bool) where
       let e = either-neither (f n) (someBelow n f) h in
       ⊎-elim (λ (s : k ≡ n). ap f s ∙ e .0) (λ (s : k < n). not-some n (e .1) k s) (eq-or-lt-of-le (le-of-suc-le-suc l))
 
+  pub some-none : (n : ℕ) → ((k : ℕ) → k < n → f k ≡ false) → someBelow n f ≡ false
+  some-none zero h = refl
+  some-none (suc n) h = rw (h n (omega arith)) (some-none n (λ k l. h k (omega arith)))
+
   pub count-none : (n : ℕ) → ((k : ℕ) → k < n → f k ≡ false) → countBelow n f ≡ 0
   count-none zero h = refl
   count-none (suc n) h = rw (h n (omega arith)) (omega (arith, count-none n (λ k l. h k (omega arith))))

@@ -17,7 +17,7 @@ same-below (suc k) a b ha hb h =
     let e = same-below k (a / 2) (b / 2) (omega arith) (omega arith) (λ x. sym (bit-half x a) ∙ h (suc x) ∙ bit-half x b) in
     omega (arith, h 0)
 
-same-bits : (a b : ℕ) → ((x : ℕ) → bitOf x a ≡ bitOf x b) → a ≡ b
+pub same-bits : (a b : ℕ) → ((x : ℕ) → bitOf x a ≡ bitOf x b) → a ≡ b
 same-bits a b h = same-below (a + b) a b (omega arith) (omega arith) h
 
 -- the laws at one bit, by computation

@@ -223,6 +223,13 @@ next-read k g hk hg t cs table l ht =
     let h = parts k 5 g hg .target in
     rw (ht, shifted-one (targetOf g) (omega arith)) (next-column k t cs hk g hg l)
 
+-- whether a gate fires in no row, as the code reads it from the table
+pub idle-read : (k g : ℕ) → Controls k → lawful k 5 g ≡ true → (t : Wanted) (cs table : List ℕ) → table ≡ tableOf k t cs
+    → eqb (getD table (maskOf g) 0) 0 ≡ eqb (firing (gateOf g .kind) cs) 0
+unfolding gateOf
+idle-read k g hk hg t cs table ht =
+    ap (λ (x : ℕ). eqb x 0) (ap (λ (l : List ℕ). getD l (maskOf g) 0) ht ∙ product-few k t cs hk (maskOf g) (omega arith) (parts k 5 g hg .few))
+
 -- the test of a gate, from what the plan says of it
 module _ (t : Wanted) (cs : List ℕ) (n free g reach : ℕ) (width : Width n) (hg : targetOf g < 5)
     (plan : Plan) (hp : plan ≡ planOf t cs n free) where

@@ -8,7 +8,7 @@ ghost use lib.Dec.{eqb};
 ghost use lib.ListN.{length, getD};
 ghost use Rattle.logic.specs.Rules.{both, pick, bit, allBelow};
 ghost use Rattle.gate.specs.Gates.{targetOf, lawful, gateOf};
-ghost use Rattle.gate.specs.Inner.{columnStep};
+ghost use Rattle.gate.specs.Inner.{firing, columnStep};
 ghost use Rattle.table.specs.Layouts.{Width};
 ghost use Rattle.columns.specs.declared.Wanted.{Wanted};
 ghost use Rattle.columns.specs.Wanted.{fitting, dirt, tidy};
@@ -163,6 +163,14 @@ pub fn step(table: &[u16], columns: [u16; 5], g: u8) -> [u16; 5]
 {
     let t = (g / 32) as usize;
     logic::with_cell(columns, t, next_column(table, g))
+}
+
+// Whether a gate's controls are all 1 in no row, so that it changes no column.
+pub fn idle(table: &[u16], g: u8) -> bool
+    requires { ⌜ length (now table) ≡ 40 ⌝ }
+    ensures { λ r. ⌜ ((k : ℕ) (t : Wanted) (cs : List ℕ) → Controls k → lawful k 5 g ≡ true → now (table .entry) ≡ tableOf k t cs → r ≡ eqb (firing (gateOf g .kind) cs) 0) ⌝ }
+{
+    table[(g % 32) as usize] == 0
 }
 
 // Whether a column has every bit that the rows want of output `j`, by the table.

@@ -1,3 +1,5 @@
 pub mod Nodes
 pub mod Reaches
 pub mod Searches
+pub mod Forms
+pub mod Handover

@@ -28,6 +28,7 @@ use Rattle.choice.specs.Choices.{Choice, keep, attempt, improve}
 use Rattle.choice.specs.Inner.{choice}
 use Rattle.choice.proofs.First.{improve-append}
 use Rattle.problem.specs.Problems.{Problem, choiceOf, here, within}
+use Rattle.masks.specs.Words.{noMasks, stepped, masksAfter}
 use Rattle.budget.specs.Heavy.{heavy, heavies}
 use Rattle.span.specs.Span.{needed}
 use Rattle.span.proofs.Fewest.{needed-few}
@@ -89,6 +90,10 @@ module _ (P : Problem) (l : List ℕ) (g : ℕ) where
   unfolding total
   cost-snoc = total-append (P .price) l (g ∷ []) ∙ ap (λ (n : ℕ). cost (P .price) l + n) (add-zero (P .price g))
 
+marks-snoc : (l : List ℕ) (g : ℕ) → masksAfter (l ++ (g ∷ [])) ≡ stepped g (masksAfter l)
+unfolding along
+marks-snoc l g = along-append stepped l (g ∷ []) noMasks
+
 -- the list one gate further: its gates, its columns, and its depth
 module _ (P : Problem) (s : Node) (e : Entry) (at : At P s) (is : Lists P e) where
   pub follow-list : Among (P .gates) (listOf s ++ (e .gate ∷ []))
@@ -105,9 +110,9 @@ module _ (P : Problem) (s : Node) (e : Entry) (at : At P s) (is : Lists P e) whe
 module _ (P : Problem) (s next : Node) (e : Entry) (at : At P s) (is : Lists P e) (room : s .len < length (s .path)) where
   pub follows : next .len ≡ s .len + 1 → next .path ≡ set (s .path) (s .len) (e .gate) → next .columns ≡ columnStep (gateOf (e .gate)) (s .columns)
       → next .times ≡ hold (gateOf (e .gate)) (e .duration) (s .times) → next .cost ≡ s .cost + e .price
-      → Needs P (listOf s ++ (e .gate ∷ [])) (next .needs)
+      → Needs P (listOf s ++ (e .gate ∷ [])) (next .needs) → next .marks ≡ stepped (e .gate) (s .marks)
       → Follows P s (e .gate) next
-  follows hl hp hc ht hk hn =
+  follows hl hp hc ht hk hn hm =
       let g = e .gate in
       let l = listOf s in
       let long : listOf next ≡ l ++ (g ∷ []) = ap₂ take hl hp ∙ longer (s .path) (s .len) g room in
@@ -119,6 +124,7 @@ module _ (P : Problem) (s next : Node) (e : Entry) (at : At P s) (is : Lists P e
           timed = ht ∙ ap₂ (hold (gateOf g)) (is .timed) (at .timed) ∙ sym (times-snoc P l g) ∙ ap (readyTimes (P .duration)) (sym long);
           paid = hk ∙ ap₂ _+_ (at .paid) (is .priced) ∙ sym (cost-snoc P l g) ∙ ap (cost (P .price)) (sym long);
           needing = rw long hn;
+          marking = hm ∙ ap (stepped g) (at .marking) ∙ sym (marks-snoc l g) ∙ ap masksAfter (sym long);
         };
         longer = long;
       }

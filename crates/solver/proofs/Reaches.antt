@@ -1,28 +1,34 @@
 -- How far a list can still go: the cost left buys only so many gates, and some of them must be heavy; and why a gate or a list is passed over.
-use mathlib.Core.Path.{_≡_, refl, sym, _∙_}
-use mathlib.Core.Bool.{Bool, true, false}
+use mathlib.Core.Path.{_≡_, refl, sym, ap, _∙_, subst}
+use mathlib.Core.Bool.{Bool, true, false, false≢true}
 use mathlib.Core.Logic.{_⊎_, ⊎-elim}
-use mathlib.Core.List.{List, [], _∷_, _++_, List·Memᴰ}
+use mathlib.Core.List.{List, _∷_, _++_, List·Memᴰ}
 use mathlib.Core.Option.{Option}
 use Prim.Native.Nat.{ℕ, _+_, _-_, _*_, _≤_, _<_}
 use native.Mathlib.Omega.{arith}
 use borrow.Author.Tests.{leb-true, leb-false}
 use lib.Dec.{leb}
 use lib.ListN.{length}
+use Rattle.logic.specs.Rules.{bit}
 use Rattle.logic.specs.Lists.{Among}
+use Rattle.logic.specs.Bit.{bitOf}
 use Rattle.logic.proofs.Fold.{total-append}
-use Rattle.logic.proofs.Members.{among-cons}
-use Rattle.gate.specs.Gates.{gateOf}
+use Rattle.logic.proofs.Members.{among-cons, among-nil, among-append}
+use Rattle.gate.specs.Gates.{targetOf, gateOf}
 use Rattle.gate.specs.Inner.{columnStep}
 use Rattle.circuit.specs.Measure.{cost}
+use Rattle.circuit.specs.Inner.{columnsAfter}
+use Rattle.columns.specs.Wanted.{startColumns}
 use Rattle.columns.specs.Finish.{Finish}
 use Rattle.choice.specs.Choices.{Choice, attempt, improve}
 use Rattle.choice.proofs.First.{attempt-not}
 use Rattle.problem.specs.Problems.{Problem, choiceOf, here, within}
-use Rattle.problem.specs.Inner.{lookedUnder, Enough}
+use Rattle.problem.specs.Inner.{Enough}
 use Rattle.problem.proofs.Listed.{unrealized}
 use Rattle.problem.proofs.Skips.{skip-far, skip-gate}
 use Rattle.problem.proofs.Walk.{alone}
+use Rattle.pruned.specs.Pruned.{triedUnder}
+use Rattle.pruned.proofs.Walk.{spared, by-bound}
 use Rattle.budget.specs.Afford.{reach}
 use Rattle.budget.specs.Heavy.{heavies}
 use Rattle.budget.proofs.Afford.{heavies-most, reach-most, afford}
@@ -30,11 +36,18 @@ use Rattle.outputs.specs.Owed.{lost, worth, stuck}
 use Rattle.outputs.proofs.Few.{lost-few, finish-next}
 use Rattle.outputs.proofs.Skips.{worth-not}
 use Rattle.outputs.proofs.Unfinished.{stuck-none}
+use Rattle.filters.specs.declared.Reach.{Reach}
+use Rattle.filters.specs.Reach.{sharesOf, held, openOn}
+use Rattle.filters.proofs.Cuts.{open-first, next-seen}
 use Rattle.solver.specs.declared.Task.{Task}
 use Rattle.solver.specs.declared.Least.{Least}
 use Rattle.solver.specs.declared.Node.{Node}
-use Rattle.solver.specs.States.{listOf, Needs, Asks, Bounded, At, Passed}
+use Rattle.solver.specs.States.{listOf, Needs, Asks, Bounded, At, Sifted, needless, Passed}
 use Rattle.solver.proofs.Nodes.{finish-of}
+
+-- the whole state is in the set
+abbrev inSet : List ℕ → Reach → List ℕ → Bool
+inSet bits reach cs = held bits (reach .size) (sharesOf reach cs) 5 5
 
 -- a longer list either costs more than may be, or does not realize what is asked for, or is within r after all
 module _ (P : Problem) (limit most : ℕ) (l : List ℕ) (needs remaining r : ℕ) (held : Option Choice)
@@ -99,13 +112,13 @@ module _ (P : Problem) (task : Task) (s : Node) (asks : Asks P task) (at : At P 
 
   -- more outputs are missed, or more heavy gates needed, than gates can still come
   pub far : (limit remaining most : ℕ) (held : Option Choice) → Enough P limit (listOf s) remaining most held → (most < missing) ⊎ (most < s .needs)
-      → held ≡ lookedUnder P limit (listOf s) remaining held
+      → held ≡ triedUnder needless P limit (listOf s) remaining held
   far limit remaining most held enough h =
-      sym (skip-far P limit (listOf s) remaining most held enough λ e p among m short r.
+      sym (spared needless P limit (listOf s) remaining held (skip-far P limit (listOf s) remaining most held enough λ e p among m short r.
       ⊎-elim
       (λ (k : most < missing). omega (arith, few e p among m r))
       (λ (k : most < s .needs). omega (arith, at .needing .least e p among m r, heavies-most e))
-      h)
+      h))
 
   -- a list whose outputs some layout must miss has no good layout
   pub here-lost : (limit : ℕ) (held : Option Choice) → 0 < missing → improve (within P limit) held (here P (listOf s)) ≡ held
@@ -119,13 +132,40 @@ module _ (P : Problem) (task : Task) (s : Node) (asks : Asks P task) (at : At P 
     -- a gate that is not worth a try
     pub not-worth : worth (task .wanted) (s .columns) (task .outputs) (task .free) g most ≡ false → Passed P limit s g remaining held
     not-worth w =
-        skip-gate P limit (listOf s) remaining most held enough g i some-left some-most
-        λ e p among m short r. worth-not (task .controls) (task .wanted) (task .outputs) (task .free) (s .columns) g e p most (finish (g ∷ e) p (among-cons i among) m r) w short
+        by-bound needless P limit (listOf s) (remaining - 1) g held
+        (skip-gate P limit (listOf s) remaining most held enough g i some-left some-most
+        λ e p among m short r. worth-not (task .controls) (task .wanted) (task .outputs) (task .free) (s .columns) g e p most (finish (g ∷ e) p (among-cons i among) m r) w short)
 
     -- no gate after it mends what is missed
     pub stuck-after : stuck (task .controls) (task .wanted) (columnStep (gateOf g) (s .columns)) (task .outputs) (task .free) (most - 1) ≡ true → Passed P limit s g remaining held
     stuck-after w =
-        skip-gate P limit (listOf s) remaining most held enough g i some-left some-most
+        by-bound needless P limit (listOf s) (remaining - 1) g held
+        (skip-gate P limit (listOf s) remaining most held enough g i some-left some-most
         λ e p among m short r.
         stuck-none (task .controls) (task .wanted) (task .outputs) (task .free) (columnStep (gateOf g) (s .columns)) e p (most - 1)
-        (finish-next (task .controls) (task .wanted) (task .outputs) (task .free) (s .columns) g e p (finish (g ∷ e) p (among-cons i among) m r)) w (omega arith)
+        (finish-next (task .controls) (task .wanted) (task .outputs) (task .free) (s .columns) g e p (finish (g ∷ e) p (among-cons i among) m r)) w (omega arith))
+
+    -- the filter has no way on: its target is shut, or the state after it is not in the set
+    pub filtered : (bits : List ℕ) (reach : Reach) (wires : ℕ) → Sifted P task s bits reach most wires → targetOf g < 5
+        → (bitOf (targetOf g) wires ≡ 0) ⊎ ((most - 1 ≤ reach .radius) × (inSet bits reach (columnStep (gateOf g) (s .columns)) ≡ false))
+        → Passed P limit s g remaining held
+    filtered bits reach wires sifted target out =
+        by-bound needless P limit (listOf s) (remaining - 1) g held
+        (skip-gate P limit (listOf s) remaining most held enough g i some-left some-most
+        λ e p among m short r.
+        let k = task .controls in
+        let t = task .wanted in
+        let n = task .outputs in
+        let free = task .free in
+        let cs = at .columned in
+        let fin = subst (λ (ds : List ℕ). Finish k t n free ds (g ∷ e) p) cs (finish (g ∷ e) p (among-cons i among) m r) in
+        ⊎-elim
+        (λ (z : bitOf (targetOf g) wires ≡ 0).
+        let o = open-first bits reach (P .gates) k t n free (sifted .sieve) (listOf s) g p (at .kept) e (most - 1) (among-cons i among) fin (omega arith) in
+        let b = sifted .opened (targetOf g) target in
+        let q = ap (λ (ds : List ℕ). bit (openOn bits reach (sharesOf reach ds) (most - 1) (targetOf g))) cs ∙ ap bit o in
+        omega arith)
+        (λ (z : (most - 1 ≤ reach .radius) × (inSet bits reach (columnStep (gateOf g) (s .columns)) ≡ false)).
+        let seen = next-seen bits reach (P .gates) k t n free (sifted .sieve) (listOf s) g e p (at .kept) (among-cons i among) fin (omega arith) in
+        absurd (false≢true (sym (z .1) ∙ ap (λ (ds : List ℕ). inSet bits reach (columnStep (gateOf g) ds)) cs ∙ seen 5 5)))
+        out)

@@ -1,29 +1,37 @@
 -- What a search knows on its way, and which problems its arguments pose. The least numbers are those of the arguments; the rest is said of
 -- every problem that they fit.
 use mathlib.Core.Path.{_≡_}
-use mathlib.Core.Bool.{true, false}
+use mathlib.Core.Bool.{Bool, true, false}
 use mathlib.Core.List.{List, [], _∷_, _++_, List·Memᴰ}
 use mathlib.Core.Option.{Option}
 use Prim.Native.Nat.{ℕ, _+_, _-_, _*_, _≤_, _<_}
 use lib.ListN.{length, getD, take}
+use Rattle.logic.specs.Rules.{bit}
 use Rattle.logic.specs.Lists.{Among}
+use Rattle.logic.specs.Bit.{bitOf}
 use Rattle.gate.specs.Gates.{targetOf, lawful}
 use Rattle.circuit.specs.Measure.{cost, readyTimes}
 use Rattle.circuit.specs.Inner.{columnsAfter}
 use Rattle.table.specs.Layouts.{Width, layoutsFor}
 use Rattle.columns.specs.Wanted.{startColumns, reached}
 use Rattle.choice.specs.Choices.{Choice}
-use Rattle.problem.specs.Problems.{Problem}
+use Rattle.problem.specs.Problems.{Problem, firstGood}
 use Rattle.choice.specs.declared.Best.{Best}
 use Rattle.choice.specs.Inner.{view}
-use Rattle.problem.specs.Inner.{lookedUnder, Past, Dearer, Shortest}
+use Rattle.problem.specs.Inner.{Past, Dearer, Shortest}
+use Rattle.pruned.specs.Pruned.{triedBy}
+use Rattle.normal.specs.Forms.{skipped}
+use Rattle.masks.specs.Words.{masksAfter}
 use Rattle.budget.specs.Heavy.{heavies}
 use Rattle.budget.specs.Afford.{CostsAtLeast}
 use Rattle.outputs.specs.Owed.{Controls}
+use Rattle.filters.specs.declared.Reach.{Reach}
+use Rattle.filters.specs.Reach.{sharesOf, Sieve, openOn}
 use Rattle.solver.specs.declared.Task.{Task}
 use Rattle.solver.specs.declared.Least.{Least}
 use Rattle.solver.specs.declared.Node.{Node}
 use Rattle.solver.specs.declared.Entry.{Entry}
+use Rattle.solver.specs.declared.Outcome.{Outcome}
 
 -- the list that leads to a node
 abbrev pub listOf : Node → List ℕ
@@ -34,6 +42,13 @@ pub record Slices (gates prices durations : List ℕ) : Type 0 where
   pub priced-all : length prices ≡ length gates
   pub timed-all : length durations ≡ length gates
   pub known : (i : ℕ) → i < length gates → targetOf (getD gates i 0) < 5
+
+-- the same, with a filter that rules out nothing the gates can finish for the task
+pub record Supplied (gates prices durations : List ℕ) (task : Task) (bits : List ℕ) (reach : Reach) : Type 0 where
+  pub priced-all : length prices ≡ length gates
+  pub timed-all : length durations ≡ length gates
+  pub known : (i : ℕ) → i < length gates → targetOf (getD gates i 0) < 5
+  pub sieve : Sieve bits reach gates (task .controls) (task .wanted) (task .outputs) (task .free)
 
 -- the list of a node has its room, and the sums fit their words
 pub record Small (s : Node) : Type 0 where
@@ -91,6 +106,7 @@ pub record At (P : Problem) (s : Node) : Type 0 where
   pub timed : s .times ≡ readyTimes (P .duration) (listOf s)
   pub paid : s .cost ≡ cost (P .price) (listOf s)
   pub needing : Needs P (listOf s) (s .needs)
+  pub marking : s .marks ≡ masksAfter (listOf s)
 
 -- a gate of the problem with its own price and duration
 pub record Lists (P : Problem) (e : Entry) : Type 0 where
@@ -98,19 +114,33 @@ pub record Lists (P : Problem) (e : Entry) : Type 0 where
   pub priced : e .price ≡ P .price (e .gate)
   pub timed : e .duration ≡ P .duration (e .gate)
 
+-- what the filter says of the next gates of a node, where at most `most` may come: the wires that are open to them
+pub record Sifted (P : Problem) (task : Task) (s : Node) (bits : List ℕ) (reach : Reach) (most wires : ℕ) : Type 0 where
+  pub sieve : Sieve bits reach (P .gates) (task .controls) (task .wanted) (task .outputs) (task .free)
+  pub opened : (w : ℕ) → w < 5 → bitOf w wires ≡ bit (openOn bits reach (sharesOf reach (s .columns)) (most - 1) w)
+
 -- a node one gate further than s
 pub record Follows (P : Problem) (s : Node) (g : ℕ) (next : Node) : Type 0 where
   pub at : At P next
   pub longer : listOf next ≡ listOf s ++ (g ∷ [])
 
+-- the gates that need not come next after a list
+abbrev pub needless : List ℕ → ℕ → Bool
+needless l g = skipped startColumns l g
+
 -- a gate that is passed over would not change what is held
 abbrev pub Passed : Problem → ℕ → Node → ℕ → ℕ → Option Choice → Type 0
-Passed P limit s g remaining held = lookedUnder P limit (listOf s ++ (g ∷ [])) (remaining - 1) held ≡ held
+Passed P limit s g remaining held = held ≡ triedBy needless P limit (listOf s) (remaining - 1) g held
 
 -- what a search for the fewest gates, up to `most` of them, comes to
 pub record Deepened (P : Problem) (limit most : ℕ) (r : Best) : Type 0 where
   pub failed : r .found ≡ false → Past P limit (most + 1)
   pub first : r .found ≡ true → Shortest P limit (view r) (r .len)
+
+-- what a search up to `most` gates comes to, once the costs are settled too
+pub record Settled (P : Problem) (most : ℕ) (o : Outcome) : Type 0 where
+  pub failed : o .done ≡ false → Past P (P .mostCost) (most + 1)
+  pub first : o .done ≡ true → view (o .best) ≡ firstGood P
 
 -- what a search at one cost comes to
 pub record Priced (P : Problem) (limit : ℕ) (r : Best) : Type 0 where

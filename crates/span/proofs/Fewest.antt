@@ -59,7 +59,7 @@ first-out n j (c ∷ cs) (suc i) h = first-out n (suc j) cs i (omega arith)
 
 module _ (t : Wanted) (n p : ℕ) (hc : n ≤ length (t .care)) (hn : n ≤ 4) (cs : List ℕ) (h : met t cs p ≡ true) where
   -- on the rows that want every output, each output is its wire's column
-  fits-rows : (j : ℕ) → j < n → bitAnd (fullRows t n) (getD cs (wireOf p j) 0) ≡ bitAnd (fullRows t n) (getD (t .value) j 0)
+  pub fits-rows : (j : ℕ) → j < n → bitAnd (fullRows t n) (getD cs (wireOf p j) 0) ≡ bitAnd (fullRows t n) (getD (t .value) j 0)
   unfolding met misses fullRows
   fits-rows j l =
       let c = getD cs (wireOf p j) 0 in

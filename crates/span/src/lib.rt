@@ -101,7 +101,7 @@ fn first(n: usize, d: u16, columns: [u16; 4]) -> [u16; 4]
 }
 
 // The rows in which each of the first `n` outputs is wanted.
-fn full_rows(t: Wanted, n: usize) -> u16
+pub fn full_rows(t: Wanted, n: usize) -> u16
     ensures { λ r. ⌜ r ≡ fullRows t n ⌝ }
 {
     let columns = t.care;

@@ -3,7 +3,7 @@
 use mathlib.Core.Path.{_≡_, refl, sym, ap, _∙_, subst}
 use mathlib.Core.Bool.{true}
 use mathlib.Core.Logic.{_⊎_, inl, inr, ⊎-elim}
-use mathlib.Core.List.{List, [], _∷_, _++_, flatMap, List·Memᴰ}
+use mathlib.Core.List.{List, _++_, flatMap, List·Memᴰ}
 use mathlib.Core.Option.{Option}
 use Prim.Native.Nat.{ℕ, _+_, _-_, _^_, _≤_, _<_}
 use native.Mathlib.Omega.{arith}
@@ -16,19 +16,21 @@ use Rattle.logic.specs.Rules.{either}
 use Rattle.logic.proofs.Chain.{either-cases}
 use Rattle.logic.proofs.Members.{member-at}
 use Rattle.gate.specs.Gates.{targetOf}
-use Rattle.choice.specs.Choices.{Choice, improve, below}
+use Rattle.choice.specs.Choices.{Choice, improve}
 use Rattle.choice.specs.Inner.{view}
 use Rattle.choice.proofs.First.{improve-append}
 use Rattle.problem.specs.Problems.{Problem, here, within}
-use Rattle.problem.specs.Inner.{lookedUnder, Enough}
+use Rattle.problem.specs.Inner.{Enough}
 use Rattle.problem.proofs.Skips.{enough-since}
-use Rattle.problem.proofs.Walk.{walk-stop, walk-turn, walk-end}
+use Rattle.pruned.specs.Pruned.{branches, triedUnder, triedBy}
+use Rattle.pruned.proofs.Walk.{by-entering, walk-stop, walk-turn, walk-end}
 use Rattle.outputs.specs.Owed.{lost}
 use Rattle.outputs.specs.Inner.{tableOf}
+use Rattle.filters.specs.Reach.{Sieve}
 use Rattle.solver.specs.declared.Task.{Task}
 use Rattle.solver.specs.declared.Node.{Node}
 use Rattle.solver.specs.declared.Entry.{Entry}
-use Rattle.solver.specs.States.{listOf, Posed, Bounded, At, Lists}
+use Rattle.solver.specs.States.{listOf, needless, Posed, Bounded, At, Lists, Sifted}
 use Rattle.solver.proofs.Nodes.{five-columns}
 use Rattle.solver.proofs.Reaches.{far, not-worth}
 use Rattle.solver.proofs.dfs.Reads as dfs
@@ -38,6 +40,7 @@ use Rattle.logic.proofs.either.Reads as either-reads
 use Rattle.outputs.proofs.plan_of.Reads as plan-of-reads
 use Rattle.outputs.proofs.table_of.Reads as table-of-reads
 use Rattle.outputs.proofs.worth.Reads as worth-reads
+use Rattle.filters.proofs.open_wires.Reads as open-wires-reads
 use Rattle.solver.proofs.advance.Reads as advance-reads
 use Rattle.solver.proofs.affordable.Reads as affordable-reads
 use Rattle.solver.proofs.consider_met.Reads as consider-met-reads
@@ -45,14 +48,14 @@ use Rattle.solver.proofs.promising.Reads as promising-reads
 use Rattle.solver.proofs.+dfs.{statement}
 use Rattle.solver.proofs.+dfs.Tie.{close}
 
-abbrev μ-dfs : Measures 3 dfs-kinds.ps ℕ
+abbrev μ-dfs : Measures 4 dfs-kinds.ps ℕ
 μ-dfs κs a = a .1 .1 .1 .1 .1 .1 .0
 
-abbrev dfs-at : ℕ → In 3 dfs-kinds.ps
-dfs-at t = and 3 dfs-kinds.ps (is 3 dfs-kinds.ps μ-dfs t) dfs.Pre
+abbrev dfs-at : ℕ → In 4 dfs-kinds.ps
+dfs-at t = and 4 dfs-kinds.ps (is 4 dfs-kinds.ps μ-dfs t) dfs.Pre
 
-abbrev dfs-below : ℕ → In 3 dfs-kinds.ps
-dfs-below t = and 3 dfs-kinds.ps (falls 3 dfs-kinds.ps _<_ μ-dfs t) dfs.Pre
+abbrev dfs-below : ℕ → In 4 dfs-kinds.ps
+dfs-below t = and 4 dfs-kinds.ps (falls 4 dfs-kinds.ps _<_ μ-dfs t) dfs.Pre
 
 abbrev callees : ℕ → dfs-lts.Claims
 callees t = (
@@ -66,6 +69,8 @@ callees t = (
   consider-met-reads.Learnt,
   table-of-reads.Asked,
   table-of-reads.Learnt,
+  open-wires-reads.Asked,
+  open-wires-reads.Learnt,
   worth-reads.Asked,
   worth-reads.Learnt,
   promising-reads.Asked,
@@ -77,16 +82,16 @@ callees t = (
 )
 
 abbrev dfs-Inv-loop : dfs-lts.InvT-loop
-dfs-Inv-loop gates prices durations task least s remaining most plan b₀ table i₀ b i =
+dfs-Inv-loop gates prices durations task least s remaining bits reach most plan b₀ table wires i₀ b i =
     (i ≤ length gates) × ((1 ≤ most) × ((b .len ≤ 12) × ((P : Problem) → Posed P task gates prices durations → Bounded P least → At P s
-    → view b ≡ improve (within P (task .«cost_limit»)) (view b₀) (below (here P) (P .gates) (listOf s) (remaining - 1) i))))
+    → view b ≡ improve (within P (task .«cost_limit»)) (view b₀) (branches needless (here P) (P .gates) (listOf s) (remaining - 1) i))))
 
 abbrev dfs-μ-loop : dfs-lts.MeasureT-loop
-dfs-μ-loop gates prices durations task least s remaining most plan b₀ table i₀ b i = length gates - i
+dfs-μ-loop gates prices durations task least s remaining bits reach most plan b₀ table wires i₀ b i = length gates - i
 
 dfs-returns : (t : ℕ) → dfs-lts.Need-returns (callees t) (dfs-at t) dfs.Post dfs-Inv-loop dfs-μ-loop
 dfs-returns t c =
-    let s = c .before .before .before .before .before .before .before .before .before .before .before in
+    let s = c .before .before .before .before .before .before .before .before .before .before .before .before in
     let a = s .args in
     let m = c .before .before .before .before .before .before .before .affordable in
     let e = c .before .before .before .before .plan-of .ensures .1 in (
@@ -98,11 +103,11 @@ dfs-returns t c =
 
 dfs-returns-2 : (t : ℕ) → dfs-lts.Need-returns-2 (callees t) (dfs-at t) dfs.Post dfs-Inv-loop dfs-μ-loop
 dfs-returns-2 t c =
-    let a = c .before .before .before .before .before .before .before .before .before .before .before .before .before .args in
+    let a = c .before .before .before .before .before .before .before .before .before .before .before .before .before .before .args in
     let m = c .before .before .before .before .before .before .before .before .before .affordable in
     let k = c .before .consider-met in (
       (λ P posed bounded at.
-          walk-stop P (a .task .«cost_limit») (listOf (a .s)) (a .remaining) (m .result) (view (a .best)) (view (k .result)) (m .ensures .1 P bounded at) (c .if2 .taken)
+          walk-stop needless P (a .task .«cost_limit») (listOf (a .s)) (a .remaining) (m .result) (view (a .best)) (view (k .result)) (m .ensures .1 P bounded at) (c .if2 .taken)
           (k .ensures .0 P (posed .asks) at)),
       k .ensures .1,
     )
@@ -110,13 +115,13 @@ dfs-returns-2 t c =
 dfs-loop-holds : (t : ℕ) → dfs-lts.Need-loop-holds (callees t) (dfs-at t) dfs.Post dfs-Inv-loop dfs-μ-loop
 unfolding improve flatMap
 dfs-loop-holds t c =
-    let z = c .before .if2 .left in
-    (omega arith, (omega arith, (c .before .before .consider-met .ensures .1, λ P posed bounded at. refl)))
+    let z = c .before .before .if2 .left in
+    (omega arith, (omega arith, (c .before .before .before .consider-met .ensures .1, λ P posed bounded at. refl)))
 
 -- what is known in a turn of the loop
-module _ (t : ℕ) (p : dfs-lts.At-loop (callees t) (dfs-at t) dfs.Post dfs-Inv-loop dfs-μ-loop) (index : p .loop .i < length (p .before .before .before .before .before .before .before .before .before .before .before .before .before .before .before .args .gates .now)) where
+module _ (t : ℕ) (p : dfs-lts.At-loop (callees t) (dfs-at t) dfs.Post dfs-Inv-loop dfs-μ-loop) (index : p .loop .i < length (p .before .before .before .before .before .before .before .before .before .before .before .before .before .before .before .before .before .args .gates .now)) where
   abbrev start : dfs-lts.Start (callees t) (dfs-at t) dfs.Post dfs-Inv-loop dfs-μ-loop
-  start = p .before .before .before .before .before .before .before .before .before .before .before .before .before .before .before
+  start = p .before .before .before .before .before .before .before .before .before .before .before .before .before .before .before .before .before
 
   abbrev task : Task
   task = start .args .task
@@ -131,7 +136,7 @@ module _ (t : ℕ) (p : dfs-lts.At-loop (callees t) (dfs-at t) dfs.Post dfs-Inv-
   remaining = start .args .remaining
 
   abbrev most : ℕ
-  most = p .before .before .before .before .before .before .before .before .before .before .before .affordable .result
+  most = p .before .before .before .before .before .before .before .before .before .before .before .before .affordable .result
 
   abbrev entry : Entry
   entry = record {
@@ -144,13 +149,13 @@ module _ (t : ℕ) (p : dfs-lts.At-loop (callees t) (dfs-at t) dfs.Post dfs-Inv-
   tried-target = start .pre .1 .0 .known (p .loop .i) index
 
   some-left : 1 ≤ remaining
-  some-left = let a = p .before .before .before .before .before .before .before .before .before .before .before .affordable .ensures .0 in let m = p .loop .inv .1 .0 in omega arith
+  some-left = let a = p .before .before .before .before .before .before .before .before .before .before .before .before .affordable .ensures .0 in let m = p .loop .inv .1 .0 in omega arith
 
   room : node .len < 12
   room = let r = some-left in let h = start .pre .1 .1 .1 .0 .0 in omega arith
 
-  abbrev table-is : p .before .table-of .result ≡ tableOf (task .controls) (task .wanted) (node .columns)
-  table-is = p .before .table-of .ensures
+  abbrev table-is : p .before .before .table-of .result ≡ tableOf (task .controls) (task .wanted) (node .columns)
+  table-is = p .before .before .table-of .ensures
 
   module _ (P : Problem) (posed : Posed P task (start .args .gates .now) (start .args .prices .now) (start .args .durations .now)) (bounded : Bounded P (start .args .least))
       (at : At P node) where
@@ -161,22 +166,29 @@ module _ (t : ℕ) (p : dfs-lts.At-loop (callees t) (dfs-at t) dfs.Post dfs-Inv-
       timed = posed .timed (p .loop .i) index;
     }
 
+    -- what the filter says of the gates here
+    sifted-is : Sifted P task node (start .args .bits .now) (start .args .reach) most (p .before .open-wires .result)
+    sifted-is = record {
+      sieve = subst (λ (gs : List ℕ). Sieve (start .args .bits .now) (start .args .reach) gs (task .controls) (task .wanted) (task .outputs) (task .free)) (posed .listed) (start .pre .1 .0 .sieve);
+      opened = p .before .open-wires .ensures;
+    }
+
     -- what is held before the turn comes from what was held at the start
     enough : Enough P limit (listOf node) remaining most (view (p .loop .b))
     enough =
-        enough-since P limit (listOf node) remaining most (view (start .args .best)) (p .before .before .before .before .before .before .before .before .before .before .before .affordable .ensures .1 P bounded at) (view (p .loop .b))
-        (here P (listOf node) ++ below (here P) (P .gates) (listOf node) (remaining - 1) (p .loop .i))
+        enough-since P limit (listOf node) remaining most (view (start .args .best)) (p .before .before .before .before .before .before .before .before .before .before .before .before .affordable .ensures .1 P bounded at) (view (p .loop .b))
+        (here P (listOf node) ++ branches needless (here P) (P .gates) (listOf node) (remaining - 1) (p .loop .i))
         (p .loop .inv .1 .1 .1 P posed bounded at
-        ∙ ap (λ (x : Option Choice). improve (within P limit) x (below (here P) (P .gates) (listOf node) (remaining - 1) (p .loop .i))) (p .before .before .before .consider-met .ensures .0 P (posed .asks) at)
+        ∙ ap (λ (x : Option Choice). improve (within P limit) x (branches needless (here P) (P .gates) (listOf node) (remaining - 1) (p .loop .i))) (p .before .before .before .before .consider-met .ensures .0 P (posed .asks) at)
         ∙ sym (improve-append (within P limit) (view (start .args .best)) (here P (listOf node)) _))
 
     -- one gate more, whichever way it went
-    turned : (y : Option Choice) → y ≡ lookedUnder P limit (listOf node ++ (entry .gate ∷ [])) (remaining - 1) (view (p .loop .b))
-        → y ≡ improve (within P limit) (view (p .before .before .before .consider-met .result)) (below (here P) (P .gates) (listOf node) (remaining - 1) (p .loop .i + 1))
+    turned : (y : Option Choice) → y ≡ triedBy needless P limit (listOf node) (remaining - 1) (entry .gate) (view (p .loop .b))
+        → y ≡ improve (within P limit) (view (p .before .before .before .before .consider-met .result)) (branches needless (here P) (P .gates) (listOf node) (remaining - 1) (p .loop .i + 1))
     turned y e =
-        walk-turn P limit (listOf node) (remaining - 1) (p .loop .i) (view (p .before .before .before .consider-met .result)) (view (p .loop .b)) y
+        walk-turn needless P limit (listOf node) (remaining - 1) (p .loop .i) (view (p .before .before .before .before .consider-met .result)) (view (p .loop .b)) y
         (rw (posed .listed) at index) (p .loop .inv .1 .1 .1 P posed bounded at)
-        (e ∙ ap (λ (g : List ℕ). lookedUnder P limit (listOf node ++ (getD g (p .loop .i) 0 ∷ [])) (remaining - 1) (view (p .loop .b))) (posed .listed))
+        (e ∙ ap (λ (g : List ℕ). triedBy needless P limit (listOf node) (remaining - 1) (getD g (p .loop .i) 0) (view (p .loop .b))) (posed .listed))
 
 dfs-worth-requires : (t : ℕ) → dfs-lts.Need-worth-requires (callees t) (dfs-at t) dfs.Post dfs-Inv-loop dfs-μ-loop
 unfolding tableOf
@@ -214,10 +226,10 @@ dfs-dfs-requires t c κs =
 
 -- what the turn comes to, by each of its three ways
 dfs-turn : (t : ℕ) (c : dfs-lts.Joined3 (callees t) (dfs-at t) dfs.Post dfs-Inv-loop dfs-μ-loop)
-    → let p = c .before .before .before .before .before in (h : p .loop .i < length (p .before .before .before .before .before .before .before .before .before .before .before .before .before .before .before .args .gates .now)) → (c .if3 .b .len ≤ 12) × ((P : Problem)
+    → let p = c .before .before .before .before .before in (h : p .loop .i < length (p .before .before .before .before .before .before .before .before .before .before .before .before .before .before .before .before .before .args .gates .now)) → (c .if3 .b .len ≤ 12) × ((P : Problem)
     → Posed P (task t p h) (start t p h .args .gates .now) (start t p h .args .prices .now) (start t p h .args .durations .now) → Bounded P (start t p h .args .least)
     → At P (node t p h)
-    → view (c .if3 .b) ≡ lookedUnder P (limit t p h) (listOf (node t p h) ++ (entry t p h .gate ∷ [])) (remaining t p h - 1) (view (p .loop .b)))
+    → view (c .if3 .b) ≡ triedBy needless P (limit t p h) (listOf (node t p h)) (remaining t p h - 1) (entry t p h .gate) (view (p .loop .b)))
 dfs-turn t c h =
     let p = c .before .before .before .before .before in
     let small = p .loop .inv .1 .1 .0 in
@@ -228,7 +240,9 @@ dfs-turn t c h =
       λ P posed bounded at.
           let f = d .7 .ensures .1 P (posed .asks) at (tried-is t p h P posed bounded at) (table-is t p h) in
           ap view e ∙ d .8 .ensures .0 P posed bounded (f .at)
-          ∙ ap (λ (l : List ℕ). lookedUnder P (limit t p h) l (remaining t p h - 1) (view (p .loop .b))) (f .longer),
+          ∙ ap (λ (l : List ℕ). triedUnder needless P (limit t p h) l (remaining t p h - 1) (view (p .loop .b))) (f .longer)
+          ∙ by-entering needless P (limit t p h) (listOf (node t p h)) (remaining t p h - 1) (entry t p h .gate) (view (p .loop .b))
+          (d .4 .ensures .1 P (posed .asks) at (tried-is t p h P posed bounded at) (table-is t p h) (d .5 .taken)),
     ))
     (λ o.
     ⊎-elim
@@ -237,17 +251,17 @@ dfs-turn t c h =
       rw e small,
       λ P posed bounded at.
           ap view e
-          ∙ sym (d .4 .ensures P (remaining t p h) (posed .asks) at (tried-is t p h P posed bounded at) (table-is t p h) (some-left t p h) (enough t p h P posed bounded at) (d .5 .left)),
+          ∙ d .4 .ensures .0 P (remaining t p h) (posed .asks) at (tried-is t p h P posed bounded at) (table-is t p h) (some-left t p h) (enough t p h P posed bounded at) (sifted-is t p h P posed bounded at) (d .5 .left),
     ))
     (λ d.
     let e = d .1 in (
       rw e small,
       λ P posed bounded at.
           ap view e
-          ∙ sym (not-worth P (task t p h) (node t p h) (posed .asks) at (limit t p h) (entry t p h .gate) (remaining t p h) (most t p h) (view (p .loop .b))
+          ∙ not-worth P (task t p h) (node t p h) (posed .asks) at (limit t p h) (entry t p h .gate) (remaining t p h) (most t p h) (view (p .loop .b))
           (tried-is t p h P posed bounded at .listed) (some-left t p h) (p .loop .inv .1 .0) (enough t p h P posed bounded at)
           (sym (c .before .worth .ensures (task t p h .controls) (task t p h .wanted) (node t p h .columns) (posed .asks .fair .few)
-          (posed .asks .kinds (entry t p h .gate) (tried-is t p h P posed bounded at .listed)) (five-columns P (node t p h) at) (table-is t p h) (p .before .before .before .before .before .before .before .before .plan-of .ensures .0)) ∙ d .0 .left)),
+          (posed .asks .kinds (entry t p h .gate) (tried-is t p h P posed bounded at .listed)) (five-columns P (node t p h) at) (table-is t p h) (p .before .before .before .before .before .before .before .before .before .plan-of .ensures .0)) ∙ d .0 .left),
     ))
     o)
     (c .if3 .came)
@@ -262,15 +276,15 @@ dfs-loop-again t c =
 dfs-returns-3 : (t : ℕ) → dfs-lts.Need-returns-3 (callees t) (dfs-at t) dfs.Post dfs-Inv-loop dfs-μ-loop
 dfs-returns-3 t c =
     let p = c .before in
-    let s = p .before .before .before .before .before .before .before .before .before .before .before .before .before .before .before in
+    let s = p .before .before .before .before .before .before .before .before .before .before .before .before .before .before .before .before .before in
     let a = s .args in
     let i = p .loop .inv in
     let q : p .loop .i ≡ length (a .gates .now) = let x = i .0 in let y = c .loop-test .left in omega arith in
     let k = i .1 .0 in
-    let m = p .before .before .before .before .before .before .before .before .before .before .before .affordable .ensures .0 in (
+    let m = p .before .before .before .before .before .before .before .before .before .before .before .before .affordable .ensures .0 in (
       (λ P posed bounded at.
-          walk-end P (a .task .«cost_limit») (listOf (a .s)) (a .remaining) (view (a .best)) (view (p .before .before .before .consider-met .result)) (view (p .loop .b)) (omega arith)
-          (p .before .before .before .consider-met .ensures .0 P (posed .asks) at) (rw (q, posed .listed) at (i .1 .1 .1 P posed bounded at))),
+          walk-end needless P (a .task .«cost_limit») (listOf (a .s)) (a .remaining) (view (a .best)) (view (p .before .before .before .before .consider-met .result)) (view (p .loop .b)) (omega arith)
+          (p .before .before .before .before .consider-met .ensures .0 P (posed .asks) at) (rw (q, posed .listed) at (i .1 .1 .1 P posed bounded at))),
       i .1 .1 .0,
     )
 
@@ -284,26 +298,28 @@ pub +dfs-spec : {M : Type 1} → statement M
     dfs.Post
     dfs-Inv-loop
     dfs-μ-loop
-    (λ c κs. let s = c .before .before .before in (s .pre .1 .1 .1 .1 .few, s .pre .1 .1 .0 .1))
-    (λ c κs. c .before .before .before .before .before .before .pre .1 .1 .0 .0 .wide)
+    (λ c κs. let s = c .before .before .before .before in (s .pre .1 .1 .1 .1 .few, s .pre .1 .1 .0 .1))
+    (λ c κs. c .before .before .before .before .before .before .before .pre .1 .1 .0 .0 .wide)
     (λ c κs. search needs)
     (dfs-returns t)
-    (λ c κs. let s = c .before .before .before .before .before .before .before .before .before .before .before in let h = s .pre .1 .1 .1 .0 .0 in (s .pre .1 .1 .0 .0 .wide, ((omega arith, s .pre .1 .1 .1 .0 .1), c .before .before .before .before .plan-of .ensures .1)))
+    (λ c κs. let s = c .before .before .before .before .before .before .before .before .before .before .before .before in let h = s .pre .1 .1 .1 .0 .0 in (s .pre .1 .1 .0 .0 .wide, ((omega arith, s .pre .1 .1 .1 .0 .1), c .before .before .before .before .plan-of .ensures .1)))
     (dfs-returns-2 t)
-    (λ c κs. c .before .before .before .before .before .before .before .before .before .before .before .before .before .pre .1 .1 .0 .0 .few)
+    (λ c κs. c .before .before .before .before .before .before .before .before .before .before .before .before .before .before .pre .1 .1 .0 .0 .few)
+    (λ c. let z = c .before .if2 .left in omega arith)
+    (λ c κs. search needs)
     (dfs-loop-holds t)
     (λ c. search needs)
     (λ c. search needs)
     (dfs-worth-requires t)
-    (λ c. let p = c .before .before .before .before .before .before in omega (arith, c .before .before .before .before .before .loop-test .taken, p .before .before .before .before .before .before .before .before .before .before .before .before .before .before .before .pre .1 .0 .priced-all))
-    (λ c. let p = c .before .before .before .before .before .before .before in omega (arith, c .before .before .before .before .before .before .loop-test .taken, p .before .before .before .before .before .before .before .before .before .before .before .before .before .before .before .pre .1 .0 .timed-all))
+    (λ c. let p = c .before .before .before .before .before .before in omega (arith, c .before .before .before .before .before .loop-test .taken, p .before .before .before .before .before .before .before .before .before .before .before .before .before .before .before .before .before .pre .1 .0 .priced-all))
+    (λ c. let p = c .before .before .before .before .before .before .before in omega (arith, c .before .before .before .before .before .before .loop-test .taken, p .before .before .before .before .before .before .before .before .before .before .before .before .before .before .before .before .before .pre .1 .0 .timed-all))
     (λ c. search needs)
     (dfs-promising-requires t)
     (λ c. search needs)
     (dfs-advance-requires t)
     (λ c. some-left t (c .before .before .before .before .before .before .before .before .before .before .before .before) (c .before .before .before .before .before .before .before .before .before .before .before .loop-test .taken))
     (dfs-dfs-requires t)
-    (λ c. let h = c .before .before .before .before .loop-test .taken in let k = dfs-short t (c .before .before .before .before .before .before .before .before .before .before .before .before .before .before .before .before .before .before .before .before) in search needs)
+    (λ c. let h = c .before .before .before .before .loop-test .taken in let k = dfs-short t (c .before .before .before .before .before .before .before .before .before .before .before .before .before .before .before .before .before .before .before .before .before .before) in search needs)
     (λ c. let h = c .before .before .before .before .loop-test .taken in omega arith)
     (dfs-loop-again t)
     (dfs-returns-3 t)

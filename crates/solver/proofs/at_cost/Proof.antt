@@ -10,7 +10,7 @@ use Rattle.solver.proofs.at_cost.Tie as tie
 
 returns : tie.Need-returns
 returns c =
-    let s = c .before .before .before .before .before .before in
+    let s = c .before .before .before .before .before .before .before in
     let a = s .args in
     let limit = a .task .«cost_limit» in
     let e = c .before .before .reach .ensures .0 in
@@ -24,7 +24,7 @@ returns c =
 
 fewest-requires : tie.Need-fewest-requires
 fewest-requires c κs =
-    let s = c .before .before .before .before .before in
+    let s = c .before .before .before .before .before .before in
     let m = s .pre .1 .1 in
     let k = c .if1 .left in
     let r = c .before .reach .ensures .1 in
@@ -32,7 +32,7 @@ fewest-requires c κs =
 
 returns-2 : tie.Need-returns-2
 returns-2 c =
-    let s = c .before .before .before .before .before .before in
+    let s = c .before .before .before .before .before .before .before in
     let a = s .args in
     let limit = a .task .«cost_limit» in
     let r = c .before .before .reach in
@@ -50,4 +50,4 @@ returns-2 c =
 pub at-cost-spec : {M : Type 1} → statement M
 at-cost-spec =
     tie.close
-    (tie.spec (λ c κs. let r = c .before .before .before .pre .1 .0 in (r .few, r .modest)) (λ c κs. search needs) returns fewest-requires returns-2)
+    (tie.spec (λ c κs. let r = c .before .before .before .before .pre .1 .0 in (r .few, r .modest)) (λ c κs. search needs) returns fewest-requires returns-2)

@@ -9,17 +9,17 @@ use Rattle.problem.specs.Problems.{Problem}
 use Rattle.problem.specs.Inner.{Dearer, Shortest}
 use Rattle.problem.proofs.Limits.{final, found-cost}
 use Rattle.solver.specs.declared.Task.{Task}
-use Rattle.solver.specs.States.{Posed, Bounded, Limited, Ready, limitedTo}
+use Rattle.solver.specs.States.{Posed, Bounded, Limited, Ready, Supplied, limitedTo}
 use Rattle.solver.proofs.Searches.{fair-limited, unmarked, priced-below}
 use Rattle.solver.proofs.cheaper.Statement.{statement}
 use Rattle.solver.proofs.cheaper.Tie as tie
 
 abbrev Inv-loop : tie.InvT-loop
-Inv-loop gates prices durations task least marks held c₀ c =
+Inv-loop gates prices durations task least marks held bits reach c₀ c =
     (c ≤ held .cost) × ((P : Problem) → Posed P task gates prices durations → Bounded P least → Limited P task → Shortest P (P .mostCost) (view held) (held .len) → Dearer P c)
 
 abbrev μ-loop : tie.MeasureT-loop
-μ-loop gates prices durations task least marks held c₀ c = held .cost - c
+μ-loop gates prices durations task least marks held bits reach c₀ c = held .cost - c
 
 loop-holds : tie.Need-loop-holds Inv-loop μ-loop
 loop-holds c = (omega arith, λ P posed bounded limited first. record { cost-least = λ a m h. omega arith })
@@ -27,15 +27,18 @@ loop-holds c = (omega arith, λ P posed bounded limited first. record { cost-lea
 at-cost-requires : tie.Need-at-cost-requires Inv-loop μ-loop
 unfolding limitedTo
 at-cost-requires c κs =
-    let s = c .before .before .before .before .before .before .before .before .before .before in
-    let r = s .pre .1 .0 in (
-      s .pre .0,
-      subst (λ (t : Task). Ready t (s .args .least) × (t .«gate_limit» ≤ 12)) (sym (c .limited-to .ensures)) (record { fair = fair-limited (s .args .task) _ (r .0 .fair); modest = r .0 .modest; few = r .0 .few }, r .1),
+    let s = c .before .before .before .before .before .before .before .before .before .before .before in
+    let a = s .args in
+    let f = s .pre .0 in
+    let r = s .pre .1 .0 in
+    subst (λ (t : Task). Supplied (a .gates .now) (a .prices .now) (a .durations .now) t (a .bits .now) (a .reach) × (Ready t (a .least) × (t .«gate_limit» ≤ 12))) (sym (c .limited-to .ensures)) (
+      record { priced-all = f .priced-all; timed-all = f .timed-all; known = f .known; sieve = f .sieve },
+      (record { fair = fair-limited (a .task) _ (r .0 .fair); modest = r .0 .modest; few = r .0 .few }, r .1),
     )
 
 returns : tie.Need-returns Inv-loop μ-loop
 returns c =
-    let s = c .before .before .before .before .before .before .before .before .before .before .before .before in
+    let s = c .before .before .before .before .before .before .before .before .before .before .before .before .before in
     let a = s .args in
     let q = c .before .before .before .before .before .before .before .loop in
     let b = c .before .before .before .before .before .if1 .taken in
@@ -52,7 +55,7 @@ returns c =
 
 loop-again : tie.Need-loop-again Inv-loop μ-loop
 loop-again c =
-    let s = c .before .before .before .before .before .before .before .before .before in
+    let s = c .before .before .before .before .before .before .before .before .before .before in
     let a = s .args in
     let q = c .before .before .before .before .loop in
     let b = c .before .before .if1 .taken in (
@@ -70,7 +73,7 @@ loop-again c =
 
 returns-2 : tie.Need-returns-2 Inv-loop μ-loop
 returns-2 c =
-    let s = c .before .before .before .before .before .before .before in
+    let s = c .before .before .before .before .before .before .before .before in
     let q = c .before .before .loop in
     let b = c .if1 .left in (
       (λ P posed bounded limited first.

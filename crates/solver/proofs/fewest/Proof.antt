@@ -13,26 +13,26 @@ use Rattle.solver.proofs.fewest.Statement.{statement}
 use Rattle.solver.proofs.fewest.Tie as tie
 
 abbrev Inv-loop : tie.InvT-loop
-Inv-loop gates prices durations task least from most g₀ g =
+Inv-loop gates prices durations task least from most bits reach g₀ g =
     (g ≤ most) × ((P : Problem) → Posed P task gates prices durations → Bounded P least → task .«cost_limit» ≤ P .mostCost → most ≤ P .mostGates → Past P (task .«cost_limit») from
     → Past P (task .«cost_limit») g)
 
 abbrev μ-loop : tie.MeasureT-loop
-μ-loop gates prices durations task least from most g₀ g = most - g
+μ-loop gates prices durations task least from most bits reach g₀ g = most - g
 
 loop-holds : tie.Need-loop-holds Inv-loop μ-loop
-loop-holds c = (c .before .before .before .pre .1 .1 .0, λ P posed bounded hl hg past. past)
+loop-holds c = (c .before .before .before .before .pre .1 .1 .0, λ P posed bounded hl hg past. past)
 
 run-requires : tie.Need-run-requires Inv-loop μ-loop
 run-requires c κs =
-    let s = c .before .before .before .before .before in
+    let s = c .before .before .before .before .before .before in
     let m = s .pre .1 .1 .1 in
     let b = c .loop-test .taken in
     (s .pre .0, (s .pre .1 .0, omega arith))
 
 returns : tie.Need-returns Inv-loop μ-loop
 returns c =
-    let s = c .before .before .before .before .before .before .before in
+    let s = c .before .before .before .before .before .before .before .before in
     let limit = s .args .task .«cost_limit» in
     let r = c .before .run in
     let q = c .before .before .before .loop in
@@ -46,7 +46,7 @@ returns c =
 
 loop-again : tie.Need-loop-again Inv-loop μ-loop
 loop-again c =
-    let s = c .before .before .before .before .before .before .before in
+    let s = c .before .before .before .before .before .before .before .before in
     let limit = s .args .task .«cost_limit» in
     let r = c .before .run in
     let q = c .before .before .before .loop in
@@ -54,11 +54,11 @@ loop-again c =
     (omega arith, λ P posed bounded hl hg past. past-next P limit (q .g) hl (omega arith) (sym (r .ensures .0 P posed bounded) ∙ held-none (r .result) (c .if1 .left)))
 
 run-requires-2 : tie.Need-run-requires-2 Inv-loop μ-loop
-run-requires-2 c κs = let s = c .before .before .before .before .before in (s .pre .0, (s .pre .1 .0, s .pre .1 .1 .1))
+run-requires-2 c κs = let s = c .before .before .before .before .before .before in (s .pre .0, (s .pre .1 .0, s .pre .1 .1 .1))
 
 returns-2 : tie.Need-returns-2 Inv-loop μ-loop
 returns-2 c =
-    let s = c .before .before .before .before .before .before in
+    let s = c .before .before .before .before .before .before .before in
     let limit = s .args .task .«cost_limit» in
     let most = s .args .most in
     let r = c .run2 in

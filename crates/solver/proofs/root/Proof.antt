@@ -10,9 +10,9 @@ use Rattle.solver.proofs.root.Tie as tie
 returns : tie.Need-returns
 unfolding along total
 returns c = (
-  (refl, record { sized = refl; early = λ w. idle-until w; cheap = omega arith; few = c .before .pre }),
-  λ P n. record { roomy = omega arith; kept = among-nil; columned = c .start-columns .ensures; timed = refl; paid = refl; needing = n },
+  (refl, record { sized = refl; early = λ w. idle-until w; cheap = omega arith; few = c .before .before .pre }),
+  λ P n. record { roomy = omega arith; kept = among-nil; columned = c .before .start-columns .ensures; timed = refl; paid = refl; needing = n; marking = c .start .ensures },
 )
 
 pub root-spec : {M : Type 1} → statement M
-root-spec = tie.close (tie.spec (λ c κs. search needs) returns)
+root-spec = tie.close (tie.spec (λ c κs. search needs) (λ c κs. search needs) returns)

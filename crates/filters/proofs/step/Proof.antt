@@ -1,0 +1,22 @@
+use borrow.Author.Needs.{needs}
+use mathlib.Core.Path.{_≡_, ap, ap₂, sym, _∙_}
+use mathlib.Core.List.{List}
+use Prim.Native.Nat.{ℕ}
+use lib.Bits.{bitXor}
+use lib.ListN.{set}
+use Rattle.gate.specs.declared.Gate.{Gate}
+use Rattle.gate.specs.Inner.{columnStep}
+use Rattle.filters.proofs.step.Statement.{statement}
+use Rattle.filters.proofs.step.Tie as tie
+
+returns : tie.Need-returns
+unfolding columnStep
+returns c =
+    let cs = c .before .before .before .before .args .columns in
+    let g = c .before .before .before .decode .result in
+    c .with-cell .ensures
+    ∙ ap (set cs (g .target)) (ap₂ bitXor (c .before .before .cell .ensures) (c .before .firing .ensures))
+    ∙ ap (λ (h : Gate). columnStep h cs) (c .before .before .before .decode .ensures)
+
+pub step-spec : {M : Type 1} → statement M
+step-spec = tie.close (tie.spec (λ c κs. search needs) (λ c κs. search needs) (λ c κs. search needs) (λ c κs. search needs) returns)

@@ -1,0 +1,5 @@
+pub mod Wires
+pub mod Swaps
+pub mod Beats
+pub mod Splits
+pub mod Normal

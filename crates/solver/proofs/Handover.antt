@@ -1,0 +1,47 @@
+-- One search after the other, with one filter or another: what each leaves to the next.
+use mathlib.Core.Path.{_≡_, refl, sym, _∙_, subst}
+use mathlib.Core.Bool.{true, false, true≢false}
+use mathlib.Core.List.{List}
+use mathlib.Core.Option.{none}
+use Prim.Native.Nat.{ℕ, _+_, _-_, _≤_}
+use native.Mathlib.Omega.{arith}
+use Rattle.choice.specs.declared.Best.{Best}
+use Rattle.choice.specs.Inner.{view}
+use Rattle.problem.specs.Problems.{Problem, firstGood}
+use Rattle.problem.specs.Inner.{Past}
+use Rattle.problem.proofs.Limits.{never}
+use Rattle.filters.specs.declared.Reach.{Reach}
+use Rattle.filters.specs.Reach.{Sieve}
+use Rattle.solver.specs.declared.Task.{Task}
+use Rattle.solver.specs.declared.Outcome.{Outcome}
+use Rattle.solver.specs.States.{Slices, Supplied, Deepened, Settled}
+
+pub supplied : (gates prices durations : List ℕ) (task : Task) (bits : List ℕ) (reach : Reach) → Slices gates prices durations
+    → Sieve bits reach gates (task .controls) (task .wanted) (task .outputs) (task .free) → Supplied gates prices durations task bits reach
+supplied gates prices durations task bits reach s f =
+    record { priced-all = s .priced-all; timed-all = s .timed-all; known = s .known; sieve = f }
+
+module _ (P : Problem) where
+  -- what was found stays the first, however many gates may be looked at
+  pub deepened-held : (limit a b : ℕ) (r : Best) → r .found ≡ true → Deepened P limit a r → Deepened P limit b r
+  deepened-held limit a b r f d = record { failed = λ e. absurd (true≢false (sym f ∙ e)); first = d .first }
+
+  pub settled-held : (a b : ℕ) (o : Outcome) → o .done ≡ true → Settled P a o → Settled P b o
+  settled-held a b o f s = record { failed = λ e. absurd (true≢false (sym f ∙ e)); first = s .first }
+
+  -- where nothing is held, nothing was found
+  pub deepened-none : (limit a : ℕ) (r : Best) → r .found ≡ false → Past P limit (a + 1) → Deepened P limit a r
+  deepened-none limit a r f p = record { failed = λ e. p; first = λ e. absurd (true≢false (sym e ∙ f)) }
+
+  -- the count that a search goes on from
+  pub past-from : (limit from : ℕ) → 1 ≤ from → Past P limit (from - 1 + 1) → Past P limit from
+  past-from limit from h p = let e : from - 1 + 1 ≡ from = omega arith in subst (Past P limit) e p
+
+  pub settled-first : (most : ℕ) (o : Outcome) → o .done ≡ true → view (o .best) ≡ firstGood P → Settled P most o
+  settled-first most o f e = record { failed = λ g. absurd (true≢false (sym f ∙ g)); first = λ g. e }
+
+  pub settled-none : (most : ℕ) (o : Outcome) → o .done ≡ false → Past P (P .mostCost) (most + 1) → Settled P most o
+  settled-none most o f p = record { failed = λ g. p; first = λ g. absurd (true≢false (sym g ∙ f)) }
+
+  pub none-good : (o : Outcome) → o .done ≡ false → Settled P (P .mostGates) o → firstGood P ≡ none
+  none-good o f s = never P (s .failed f)

@@ -6,7 +6,7 @@ usage: compare.py [MAIN_BINARY] [--count N] [--seed N] [--deep]
 
 With MAIN_BINARY (the proved program): that program, plain.rs at --rules full, and brute.rs.
 Every second job has a gate limit beyond brute.rs, which sits out. Without: plain.rs at every
-level (base, full, max, and max with the reach filters forced on small jobs) and brute.rs; with
+level (base, bounds, full, max, and the last two with the reach filters forced on small jobs) and brute.rs; with
 --deep the gate limits are larger and the base level is the measure instead of brute.rs. With --libraries:
 `gazbolk search JOB LIBRARY` and tools/reference.py, on jobs of at most 3 gates with small libraries.
 
@@ -27,7 +27,7 @@ sys.path.insert(0, os.path.join(os.path.dirname(HERE), "tools"))
 import reference  # noqa: E402
 
 OUT = os.path.join(os.path.dirname(HERE), "target")
-LEVELS = ["base", "full", "max", "max --reach 0,1", "max --reach 0,2", "max --reach 0,3"]
+LEVELS = ["base", "bounds", "full", "full --reach 0,2", "max", "max --reach 0,1", "max --reach 0,2", "max --reach 0,3"]
 # Greatest gate limit by number of wires, and its weights from 0 up.
 LIMITS = {3: [1, 2, 4, 8, 8, 2], 4: [1, 3, 6, 12, 1], 5: [1, 3, 8, 4]}
 LIBRARY_LIMITS = {wires: [1, 2, 4, 4] for wires in (3, 4, 5)}

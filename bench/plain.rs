@@ -1,16 +1,18 @@
 //! A fast search for document 01's cheapest circuit, in plain Rust and without proofs: the
 //! rival of the proved program. Reads a job from standard input and prints the line that
 //! `main` prints. Build: rustc -O plain.rs
-//! Run: plain [--rules base|full|max] [--stats] [--reach FROM,RADIUS]
+//! Run: plain [--rules base|bounds|full|max] [--stats] [--reach FROM,RADIUS]
 //!
 //! A state holds one column per wire; bit x of a column is the wire's value in row x.
 //! The levels of rules:
 //!   base  one depth-first search with cuts: cost above the limit or the best; cost equal to
 //!         the best and more gates; ready times above the depth limit; B1 on outputs.
-//!   full  the rules of the proved program: F (the least number of gates first, and its best
-//!         list), then I1 and I2 (deepening on cost, then on gates, below that list's cost). In
-//!         a run: cost and gates against the run's and the best's, the depth limit, B3, B1 on
-//!         outputs, and B1 and B2 in one test before each gate.
+//!   bounds  F (the least number of gates first, and its best list), then I1 and I2 (deepening on
+//!         cost, then on gates, below that list's cost). In a run: cost and gates against the run's
+//!         and the best's, the depth limit, B3, B1 on outputs, and B1 and B2 in one test before
+//!         each gate.
+//!   full  the rules of the proved program: F, I1 and I2 as above; in a run those of max without
+//!         E1's exact cost.
 //!   max   I1, I2, F only for equal prices, B1 on outputs and wires, B2, B3, E1, N1, N2, N3, B4
 //!         and B5 (m = 0).
 //! An odd table on four wires is infeasible (parity) at every level, before any search; so not in a
@@ -39,6 +41,7 @@ const REACH_PLAN: [(usize, usize); 2] = [(7, 4), (11, 5)];
 #[derive(Clone, Copy)]
 enum Rules {
     Base,
+    Bounds,
     Full,
     Max,
 }
@@ -380,10 +383,10 @@ fn solve_base<const N: usize, const FREE: bool, const K: usize>(job: &Job) -> (O
     (base.best, base.nodes)
 }
 
-// ---------------------------------------------------------------------------- full rules
+// ---------------------------------------------------------------------------- bounds
 
 /// Runs of the deepening: the best list of at most so many gates and at most so much cost.
-struct Full<'a> {
+struct Bounds<'a> {
     job: &'a Job,
     extra: u32,          // what a heavy gate costs above the least price; 0: B3 is of no use
     affordable: Vec<u8>, // by budget: the greatest number of gates at the least price
@@ -394,7 +397,7 @@ struct Full<'a> {
     nodes: u64,
 }
 
-impl Full<'_> {
+impl Bounds<'_> {
     /// B3: the greatest number of gates still to come, or None to cut.
     #[inline(always)]
     fn to_come(&self, r: usize, budget: u32, rho: u32) -> Option<usize> {
@@ -522,9 +525,9 @@ fn sums(job: &Job) -> Vec<bool> {
     sums
 }
 
-fn solve_full<const N: usize, const FREE: bool, const K: usize>(job: &Job) -> (Option<Key>, u64) {
+fn solve_bounds<const N: usize, const FREE: bool, const K: usize>(job: &Job) -> (Option<Key>, u64) {
     let low = *job.prices[..=K].iter().min().unwrap() as usize;
-    let mut full = Full {
+    let mut full = Bounds {
         job,
         extra: job.prices[2..=K].iter().min().unwrap() - low as u32,
         affordable: (0..=MAX_COST).map(|b| if low == 0 { 12 } else { 12.min(b / low) as u8 }).collect(),
@@ -627,6 +630,7 @@ struct Max<'a> {
     path: [u8; 12],
     best: Option<Key>,
     best_depth: u16, // the best's, or the limit's
+    exactly: bool,   // E1 on cost: all lists of a run cost the same, so that depth decides
     allowance: u32,  // the run's cost
     nodes: u64,
 }
@@ -698,12 +702,17 @@ impl Max<'_> {
     fn offer(&mut self, s: &State, len: usize, cost: u32) {
         if let Some(layout) = self.job.layout_for(&s.matched) {
             keep(&mut self.best, (cost, len, s.depth, layout, self.path[..len].to_vec()));
-            self.best_depth = self.best.as_ref().unwrap().2;
+            if self.exactly {
+                self.best_depth = self.best.as_ref().unwrap().2;
+            }
         }
     }
 
     fn search<const N: usize, const FREE: bool, const K: usize>(&mut self, len: usize, s: &State, node: Node) {
         self.nodes += 1;
+        if !self.exactly && self.best.as_ref().map_or(false, |best| self.allowance - node.budget > best.0) {
+            return;
+        }
         let dirt = dirty::<N>(&s.columns);
         let wrong = unmatched_outputs::<N>(&s.matched).max(unmatched_wires::<N>(&s.matched)) + dirt;
         let wrong = wrong as usize;
@@ -854,13 +863,10 @@ fn sets_of(gates: &[Gate], related: impl Fn(&Gate, &Gate) -> bool) -> Vec<Gates>
     gates.iter().map(set).collect()
 }
 
-fn solve_max<const N: usize, const FREE: bool, const K: usize>(
-    job: &Job,
-    reach_plan: &[(usize, usize)],
-) -> (Option<Key>, u64) {
+fn new_max<'a, const K: usize>(job: &'a Job, reach_plan: &'a [(usize, usize)]) -> Max<'a> {
     let heavy = *job.prices[2..=K].iter().min().unwrap();
     let controls = |g: &Gate| g.wires & !(1 << g.target);
-    let mut max = Max {
+    Max {
         job,
         use_span: heavy > job.prices[0].min(job.prices[1]),
         possible: Vec::new(),
@@ -873,9 +879,41 @@ fn solve_max<const N: usize, const FREE: bool, const K: usize>(
         path: [0; 12],
         best: None,
         best_depth: 0,
+        exactly: true,
         allowance: 0,
         nodes: 0,
+    }
+}
+
+fn solve_full<const N: usize, const FREE: bool, const K: usize>(
+    job: &Job,
+    reach_plan: &[(usize, usize)],
+) -> (Option<Key>, u64) {
+    let mut max = new_max::<K>(job, reach_plan);
+    max.exactly = false;
+    max.fill_possible(false);
+    let limit = job.cost_limit.min(MAX_COST as u32);
+    // F: the least number of gates within all limits, and the best list of so many.
+    let Some(least) = (0..=job.gate_limit).find(|&gates| max.run::<N, FREE, K>(gates, limit)) else {
+        return (None, max.nodes);
     };
+    let first = max.best.take().unwrap();
+    // I1, I2: every lower cost, and for each the numbers of gates from the least one on.
+    let sums = sums(job);
+    for cost in (0..first.0).filter(|&cost| sums[cost as usize]) {
+        if (least..=job.gate_limit).any(|gates| max.run::<N, FREE, K>(gates, cost)) {
+            return (max.best, max.nodes);
+        }
+    }
+    (Some(first), max.nodes)
+}
+
+fn solve_max<const N: usize, const FREE: bool, const K: usize>(
+    job: &Job,
+    reach_plan: &[(usize, usize)],
+) -> (Option<Key>, u64) {
+    let heavy = *job.prices[2..=K].iter().min().unwrap();
+    let mut max = new_max::<K>(job, reach_plan);
     let limit = job.cost_limit.min(MAX_COST as u32);
     if job.prices[..=K].iter().all(|&p| p == heavy) {
         // F: the least number of gates within all limits is the answer's.
@@ -899,7 +937,8 @@ fn solve_max<const N: usize, const FREE: bool, const K: usize>(
 fn solve<const N: usize, const FREE: bool, const K: usize>(job: &Job, options: &Options) -> (Option<Key>, u64) {
     match options.rules {
         Rules::Base => solve_base::<N, FREE, K>(job),
-        Rules::Full => solve_full::<N, FREE, K>(job),
+        Rules::Bounds => solve_bounds::<N, FREE, K>(job),
+        Rules::Full => solve_full::<N, FREE, K>(job, &options.reach_plan),
         Rules::Max => solve_max::<N, FREE, K>(job, &options.reach_plan),
     }
 }
@@ -943,6 +982,7 @@ fn options_of(mut args: impl Iterator<Item = String>) -> Option<Options> {
             "--rules" => {
                 options.rules = match args.next()?.as_str() {
                     "base" => Rules::Base,
+                    "bounds" => Rules::Bounds,
                     "full" => Rules::Full,
                     "max" => Rules::Max,
                     _ => return None,
@@ -961,7 +1001,7 @@ fn options_of(mut args: impl Iterator<Item = String>) -> Option<Options> {
 
 fn main() {
     let Some(options) = options_of(std::env::args().skip(1)) else {
-        eprintln!("usage: plain [--rules base|full|max] [--stats] [--reach FROM,RADIUS] < job");
+        eprintln!("usage: plain [--rules base|bounds|full|max] [--stats] [--reach FROM,RADIUS] < job");
         std::process::exit(2);
     };
     let mut bytes = Vec::new();

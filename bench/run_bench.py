@@ -1,7 +1,7 @@
 #!/usr/bin/env python3
 """The proved search, the plain one and a SAT solver side by side: one table, one run, one core.
 
-usage: run_bench.py MAIN_BINARY [--rules base|full|max] [--sboxes] [--related] [--no-sat] [--direct]
+usage: run_bench.py MAIN_BINARY [--rules base|bounds|full|max] [--sboxes] [--related] [--no-sat] [--direct]
                     [--cap SECONDS] [--repeat N] [--only TEXT] [--target FOLDER]
 
 MAIN_BINARY is the proved program (`target/bin/main`), or `-` for the others alone. plain.rs is
@@ -213,7 +213,7 @@ The CNF is sat.py's {encoding} encoding; its making isn't counted. sat/proved: b
 def main():
     parser = argparse.ArgumentParser(description="The proved search, the plain one and a SAT solver side by side.")
     parser.add_argument("main_binary", help="the proved program, or - for the others alone")
-    parser.add_argument("--rules", choices=["base", "full", "max"], default="full", help="of plain.rs; full has the rules of the program")
+    parser.add_argument("--rules", choices=["base", "bounds", "full", "max"], default="full", help="of plain.rs; full has the rules of the program")
     parser.add_argument("--sboxes", action="store_true", help="the S-boxes of ciphers in 002 and 003 at limit 12")
     parser.add_argument("--related", action="store_true", help="the S-boxes of 003's Tables 6 to 9 and D2 at limit 12")
     parser.add_argument("--no-sat", action="store_true", help="leave the SAT solver out")

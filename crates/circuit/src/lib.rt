@@ -23,7 +23,7 @@ pub fn forwards(gates: &[u8], value: usize) -> usize
     let mut v = value;
     let mut k = 0;
     while k < gates.len() {
-        v = gate::step(gates[k], v);
+        v = steps::step(gates[k], v);
         k += 1;
     }
     v
@@ -37,7 +37,7 @@ pub fn backwards(gates: &[u8], value: usize) -> usize
     let mut i = gates.len();
     while 0 < i {
         i -= 1;
-        u = gate::step(gates[i], u);
+        u = steps::step(gates[i], u);
     }
     u
 }

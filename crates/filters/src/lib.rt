@@ -3,8 +3,7 @@
 use columns::Wanted;
 use gate::Kind;
 ghost use mathlib.Core.Path.{_≡_};
-ghost use mathlib.Core.Bool.{true, false, not};
-ghost use mathlib.Core.Logic.{_⊎_};
+ghost use mathlib.Core.Bool.{Bool, true, false, not};
 ghost use mathlib.Core.List.{List·Memᴰ};
 ghost use Prim.Native.Nat.{ℕ, _-_, _+_, _≤_, _<_};
 ghost use lib.ListN.{length, getD};
@@ -457,47 +456,72 @@ fn holds(bits: &[u64], size: u32, shares: [u32; 5], a: usize, b: usize) -> bool
     lit(bits, key(size, part(shares, a, b)))
 }
 
-// Whether it is without wire `w` and some other, or without `w` alone.
-fn holds_some(bits: &[u64], size: u32, shares: [u32; 5], w: usize) -> bool
-    requires { ⌜ w < 5 ⌝ }
-    ensures { λ r. ⌜ r ≡ someBelow 5 (held (now (bits .entry)) size shares w) ⌝ }
+// 1 where one of five holds.
+fn any_of(a: bool, b: bool, c: bool, d: bool, e: bool) -> usize
+    ensures { λ r. ⌜ ((f : ℕ → Bool) → a ≡ f 0 → b ≡ f 1 → c ≡ f 2 → d ≡ f 3 → e ≡ f 4 → r ≡ bit (someBelow 5 f)) ⌝ }
+    ensures { λ r. ⌜ r < 2 ⌝ }
 {
-    let mut u = 0;
-    while u < 5 {
-        if holds(bits, size, shares, w, u) {
-            return true;
-        }
-        u += 1;
-    }
-    false
+    one(logic::either(e, logic::either(d, logic::either(c, logic::either(b, a)))))
 }
 
-// Whether a gate on wire `w`, after which at most `left` gates may come, can begin a way to finish.
-fn open_on(bits: &[u64], reach: Reach, shares: [u32; 5], left: usize, w: usize) -> bool
-    requires { ⌜ w < 5 ⌝ }
-    ensures { λ r. ⌜ r ≡ openOn (now (bits .entry)) reach shares left w ⌝ }
+// The wires, a bit each, without which alone the state is in the set.
+fn open_alone(bits: &[u64], size: u32, shares: [u32; 5]) -> usize
+    ensures { λ r. ⌜ ((w : ℕ) → w < 5 → bitOf w r ≡ bit (held (now (bits .entry)) size shares w w)) ⌝ }
 {
-    let size = reach.size;
-    let radius = reach.radius;
-    if left <= radius {
-        return holds(bits, size, shares, w, w);
-    }
-    if left - 1 <= radius {
-        return holds_some(bits, size, shares, w);
-    }
-    true
+    one(holds(bits, size, shares, 0, 0))
+        + 2 * one(holds(bits, size, shares, 1, 1))
+        + 4 * one(holds(bits, size, shares, 2, 2))
+        + 8 * one(holds(bits, size, shares, 3, 3))
+        + 16 * one(holds(bits, size, shares, 4, 4))
+}
+
+// The wires, a bit each, without which and some other, or without which alone, the state is in the set. Each pair is looked up once, and none
+// waits for another.
+fn open_pairs(bits: &[u64], size: u32, shares: [u32; 5]) -> usize
+    ensures { λ r. ⌜ ((w : ℕ) → w < 5 → bitOf w r ≡ bit (someBelow 5 (held (now (bits .entry)) size shares w))) ⌝ }
+{
+    let aa = holds(bits, size, shares, 0, 0);
+    let ab = holds(bits, size, shares, 0, 1);
+    let ac = holds(bits, size, shares, 0, 2);
+    let ad = holds(bits, size, shares, 0, 3);
+    let ae = holds(bits, size, shares, 0, 4);
+    let bb = holds(bits, size, shares, 1, 1);
+    let bc = holds(bits, size, shares, 1, 2);
+    let bd = holds(bits, size, shares, 1, 3);
+    let be = holds(bits, size, shares, 1, 4);
+    let cc = holds(bits, size, shares, 2, 2);
+    let cd = holds(bits, size, shares, 2, 3);
+    let ce = holds(bits, size, shares, 2, 4);
+    let dd = holds(bits, size, shares, 3, 3);
+    let de = holds(bits, size, shares, 3, 4);
+    let ee = holds(bits, size, shares, 4, 4);
+    any_of(aa, ab, ac, ad, ae)
+        + 2 * any_of(ab, bb, bc, bd, be)
+        + 4 * any_of(ac, bc, cc, cd, ce)
+        + 8 * any_of(ad, bd, cd, dd, de)
+        + 16 * any_of(ae, be, ce, de, ee)
 }
 
 // The wires, a bit each, that a gate may be on if it begins a way to finish and at most `left` gates come after it.
 pub fn open_wires(bits: &[u64], reach: Reach, columns: [u16; 5], left: usize) -> usize
     ensures { λ r. ⌜ ((w : ℕ) → w < 5 → bitOf w r ≡ bit (openOn (now (bits .entry)) reach (sharesOf reach columns) left w)) ⌝ }
 {
-    let parts = shares(reach, columns);
-    one(open_on(bits, reach, parts, left, 0))
-        + 2 * one(open_on(bits, reach, parts, left, 1))
-        + 4 * one(open_on(bits, reach, parts, left, 2))
-        + 8 * one(open_on(bits, reach, parts, left, 3))
-        + 16 * one(open_on(bits, reach, parts, left, 4))
+    let size = reach.size;
+    let radius = reach.radius;
+    if left <= radius {
+        return open_alone(bits, size, shares(reach, columns));
+    }
+    if left - 1 <= radius {
+        return open_pairs(bits, size, shares(reach, columns));
+    }
+    31
+}
+
+// Whether a gate's target is among the open wires.
+pub fn open(wires: usize, g: u8) -> bool
+    ensures { λ r. ⌜ (r ≡ false → bitOf (targetOf g) wires ≡ 0) ⌝ }
+{
+    (wires >> (logic::wide(g) / 32)) % 2 != 0
 }
 
 // 1 for true, 0 for false.
@@ -508,25 +532,12 @@ fn one(b: bool) -> usize
     if b { 1 } else { 0 }
 }
 
-// Whether the filter leaves a way on through gate `g`, to these columns, with at most `left` gates after it: its wire is open, and the state
-// behind it is in the set where it has to be.
-pub fn near_enough(
-    bits: &[u64],
-    reach: Reach,
-    wires: usize,
-    g: u8,
-    next: [u16; 5],
-    left: usize,
-) -> bool
-    requires { ⌜ targetOf g < 5 ⌝ }
-    ensures { λ r. ⌜ (r ≡ false → (bitOf (targetOf g) wires ≡ 0) ⊎ ((left ≤ reach .radius) × (held (now (bits .entry)) (reach .size) (sharesOf reach next) 5 5 ≡ false))) ⌝ }
+// Whether a state from which at most `left` gates may still come is in the set, where it has to be.
+pub fn near_enough(bits: &[u64], reach: Reach, columns: [u16; 5], left: usize) -> bool
+    ensures { λ r. ⌜ (r ≡ false → (left ≤ reach .radius) × (held (now (bits .entry)) (reach .size) (sharesOf reach columns) 5 5 ≡ false)) ⌝ }
 {
-    let t = logic::wide(g) / 32;
-    if (wires >> t) % 2 == 0 {
-        return false;
-    }
     if reach.radius < left {
         return true;
     }
-    !beyond(bits, reach, next)
+    !beyond(bits, reach, columns)
 }

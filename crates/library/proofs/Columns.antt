@@ -14,11 +14,11 @@ use Rattle.logic.proofs.Chain.{both-left, both-right}
 use Rattle.gate.specs.Gates.{lawful}
 use Rattle.record.specs.Jobs.{mostControls, wires}
 use Rattle.search.specs.Inner.{Lawfuls, Tabled}
-use Rattle.library.specs.declared.Entry.{Entry}
-use Rattle.library.specs.Library.{entriesOf, gatesIn, entryFor, priceIn, entryOk, entriesOk, librarySound, libraryCode}
+use Rattle.entries.specs.declared.Entry.{Entry}
+use Rattle.entries.specs.Library.{entriesOf, gatesIn, entryFor, priceIn, entryOk, entriesOk, librarySound, libraryCode}
 use Rattle.library.specs.Calls.{setIn}
-use Rattle.library.specs.Inner.{entryAt}
-use Rattle.library.proofs.Entries.{length-entries, entry-is}
+use Rattle.entries.specs.Inner.{entryAt}
+use Rattle.entries.proofs.Entries.{length-entries, entry-is}
 use Rattle.library.proofs.Sound.{gateIn, sound-library, gates-lawful}
 
 module _ (k w : ℕ) (d : Entry) where

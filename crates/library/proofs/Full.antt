@@ -22,8 +22,8 @@ use Rattle.verify.specs.Calls.{measuresOf, measuresFor, circuitCodeFor, measure
 use Rattle.verify.proofs.Codes.{circuit-parts}
 use Rattle.verify.proofs.Bounds.{lawful-here}
 use Rattle.search.specs.Outcomes.{ownSet, searchOver, searchCode, searchOf}
-use Rattle.library.specs.declared.Entry.{Entry}
-use Rattle.library.specs.Library.{gatesIn, priceIn, durationIn, fullLibrary, listed, librarySizeOk, librarySound, libraryCode}
+use Rattle.entries.specs.declared.Entry.{Entry}
+use Rattle.entries.specs.Library.{gatesIn, priceIn, durationIn, fullLibrary, listed, librarySizeOk, librarySound, libraryCode}
 use Rattle.library.specs.Calls.{jobWithCode, setIn, searchWithCode, searchWith, circuitWithCode, measuresIn, restWithCode, verifyWithCode, verifyWith}
 use Rattle.library.proofs.Laid.{gates-laid, length-laid, find-laid, sound-laid, measures-same}
 use Rattle.library.proofs.Alike.{search-same}

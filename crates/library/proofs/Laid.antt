@@ -15,8 +15,8 @@ use Rattle.logic.proofs.Chain.{both-true}
 use Rattle.gate.specs.Gates.{lawful, gateOf}
 use Rattle.circuit.specs.Measure.{holdByte, hold, idle}
 use Rattle.verify.specs.Calls.{measuresWith, measuresOf}
-use Rattle.library.specs.declared.Entry.{Entry}
-use Rattle.library.specs.Library.{entriesOf, gatesIn, entryFor, laidOut, entryOk, entriesOk}
+use Rattle.entries.specs.declared.Entry.{Entry}
+use Rattle.entries.specs.Library.{entriesOf, gatesIn, entryFor, laidOut, entryOk, entriesOk}
 
 module _ (price duration : ℕ → ℕ) where
   abbrev own : ℕ → Entry

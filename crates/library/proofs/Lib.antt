@@ -1,4 +1,3 @@
-pub mod Entries
 pub mod Sound
 pub mod Columns
 pub mod Pass

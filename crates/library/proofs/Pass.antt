@@ -19,7 +19,7 @@ use Rattle.verify.specs.Demand.{Timed}
 use Rattle.verify.proofs.Pass.{rest-passes, passes-circuit, passes-rest}
 use Rattle.verify.proofs.Ready.{timed}
 use Rattle.verify.proofs.Eleven.{circuit-for-never, rest-never}
-use Rattle.library.specs.Library.{priceIn, durationIn, listed, librarySizeOk, librarySound, libraryCode}
+use Rattle.entries.specs.Library.{priceIn, durationIn, listed, librarySizeOk, librarySound, libraryCode}
 use Rattle.library.specs.Calls.{jobWithCode, circuitWithCode, measuresIn, restWithCode, verifyWithCode, verifyWith}
 use Rattle.library.specs.Demand.{PassesWith}
 use Rattle.library.proofs.Sound.{listed-among, among-listed, suited}

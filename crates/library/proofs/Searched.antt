@@ -14,7 +14,7 @@ use Rattle.search.specs.Outcomes.{Found}
 use Rattle.search.specs.Inner.{Lawfuls}
 use Rattle.search.proofs.Facts.{Told, found-code, found-over, none-over, answers-over}
 use Rattle.search.proofs.Verified.{none-passes-over, over-passes, over-among, over-measures, over-mark}
-use Rattle.library.specs.Library.{gatesIn}
+use Rattle.entries.specs.Library.{gatesIn}
 use Rattle.library.specs.Calls.{jobWithCode, setIn, problemWith, searchWithCode, searchWith, verifyWith}
 use Rattle.library.specs.Demand.{PassesWith}
 use Rattle.library.proofs.Sound.{sound-library, gates-lawful, Searchable, searchable}

@@ -17,10 +17,10 @@ use Rattle.record.specs.Jobs.{mostControls, wires, jobCode}
 use Rattle.record.specs.Circuits.{circuitCode}
 use Rattle.verify.specs.Calls.{circuitCodeFor}
 use Rattle.verify.proofs.Codes.{circuit-parts}
-use Rattle.library.specs.declared.Entry.{Entry}
-use Rattle.library.specs.Library.{entriesOf, gatesIn, entryFor, entered, listed, librarySizeOk, entryOk, entriesOk, librarySound, libraryCode}
+use Rattle.entries.specs.declared.Entry.{Entry}
+use Rattle.entries.specs.Library.{entriesOf, gatesIn, entryFor, entered, listed, librarySizeOk, entryOk, entriesOk, librarySound, libraryCode}
 use Rattle.library.specs.Calls.{jobWithCode, searchWithCode, circuitWithCode}
-use Rattle.library.specs.Inner.{timed}
+use Rattle.entries.specs.Inner.{timed}
 
 abbrev pub gateIn : Entry → ℕ
 gateIn e = e .gate

@@ -11,7 +11,7 @@ use Rattle.verify.specs.declared.Measures.{Measures}
 use Rattle.verify.specs.Calls.{measuresOf, circuitCodeFor, verifyRest}
 use Rattle.problem.specs.Problems.{Problem}
 use Rattle.search.specs.Outcomes.{GateSet, problemOver, Found, searchOver}
-use Rattle.library.specs.Library.{gatesIn, priceIn, durationIn, listed, libraryCode}
+use Rattle.entries.specs.Library.{gatesIn, priceIn, durationIn, listed, libraryCode}
 
 -- 29 and 30, "both directly after the job's own checks"
 unfoldable pub jobWithCode : List ℕ → List ℕ → ℕ

@@ -5,7 +5,7 @@ use Prim.Native.Nat.{ℕ}
 use Rattle.logic.specs.Lists.{Among}
 use Rattle.record.specs.Circuits.{gates}
 use Rattle.verify.specs.Demand.{PassesAt}
-use Rattle.library.specs.Library.{gatesIn, priceIn, durationIn, libraryCode}
+use Rattle.entries.specs.Library.{gatesIn, priceIn, durationIn, libraryCode}
 
 pub record PassesWith (job lib c : List ℕ) : Type 0 where
   -- "a table that breaks neither 29 nor 30"

@@ -1,4 +1,3 @@
 pub mod Library
 pub mod Calls
 pub mod Demand
-pub mod Inner

@@ -20,8 +20,9 @@ use Rattle.logic.proofs.Chain.{both-left, both-right, not-so}
 use Rattle.gate.specs.Gates.{targetOf, maskOf}
 use Rattle.normal.specs.Forms.{controlled, wiresOf, commuting, disjoint, sleepStep, asleep, cancelStep, cancels}
 use Rattle.normal.proofs.Wires.{same, same-is}
+use Rattle.mask_words.specs.Words.{every, clearOf, sleepWord, cancelWord}
 use Rattle.masks.specs.declared.Masks.{Masks}
-use Rattle.masks.specs.Words.{every, clearOf, sleepWord, cancelWord, five, noMasks, stepped, masksAfter, marked}
+use Rattle.masks.specs.Words.{five, noMasks, stepped, masksAfter, marked}
 
 -- a bit as a truth
 abbrev on : ℕ → ℕ → Bool

@@ -1,6 +1,5 @@
 pub mod Few
 pub mod Skips
 pub mod Unfinished
-pub mod Planned
-pub mod Joined
-pub mod Parts
+pub mod Wires
+pub mod Counted

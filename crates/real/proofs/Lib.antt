@@ -1,4 +1,3 @@
 pub mod Bodies
-pub mod Headings
 pub mod Outcomes
 pub mod Texts

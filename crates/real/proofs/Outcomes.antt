@@ -17,9 +17,10 @@ use Rattle.revlib.specs.Reading.{starts, linesAt, namesAt, constantsIn, heading
 use Rattle.revlib.proofs.Exact.{name-count}
 use Rattle.revlib.proofs.Sound.{ancilla-few}
 use Rattle.real.specs.declared.Body.{Body}
-use Rattle.real.specs.declared.Heading.{Heading}
+use Rattle.headings.specs.declared.Heading.{Heading}
 use Rattle.real.specs.declared.Circuit.{Circuit}
-use Rattle.real.specs.Inner.{BodyIs, HeadingIs, CircuitIs}
+use Rattle.real.specs.Inner.{BodyIs, CircuitIs}
+use Rattle.headings.specs.Heading.{HeadingIs}
 
 module _ (text : List ℕ) (h : Heading) (is : HeadingIs text h) where
   pub spare-few : h .ancillas ≤ 1

@@ -21,7 +21,8 @@ use Rattle.choice.specs.declared.Best.{Best}
 use Rattle.choice.specs.Inner.{choice, view}
 use Rattle.problem.specs.Problems.{firstGood}
 use Rattle.search.specs.Outcomes.{GateSet, problemOver, recordOf, Found, outcomeOf, searchOver, reported, written}
-use Rattle.search.specs.Inner.{alwaysNone, Lawfuls, toldOf}
+use Rattle.asking.specs.Odd.{alwaysNone}
+use Rattle.search.specs.Inner.{Lawfuls, toldOf}
 use Rattle.search.proofs.Facts.{odd-first}
 
 module _ (G : GateSet) (job : List ℕ) (code : ℕ) where

@@ -18,8 +18,8 @@ use Rattle.record.specs.Jobs.{longer, mostControls, dataWires, wires, rows, job
 use Rattle.record.proofs.Kept.{sound-job, wires-within, two-or-three}
 use Rattle.columns.specs.Wanted.{wantedOf, columnsOf, startColumns, reached}
 use Rattle.columns.proofs.Agreement.{met-agrees, tidy-clean}
-use Rattle.solver.specs.declared.Task.{Task}
-use Rattle.solver.specs.States.{Slices, Fair, Asks, Posed, Limited}
+use Rattle.node.specs.declared.Task.{Task}
+use Rattle.node.specs.States.{Slices, Fair, Asks, Posed, Limited}
 use Rattle.search.specs.Outcomes.{GateSet, problemOver}
 use Rattle.search.specs.Inner.{taskOf, Lawfuls, Tabled}
 

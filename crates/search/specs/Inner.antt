@@ -1,20 +1,17 @@
--- What the search asks of the solver, and when it need not ask. No public contract cites this.
+-- What the search asks of the solver. No public contract cites this.
 use mathlib.Core.Path.{_≡_}
-use mathlib.Core.Bool.{Bool, true}
+use mathlib.Core.Bool.{true}
 use mathlib.Core.List.{List, List·Memᴰ}
 use mathlib.Core.Option.{Option, none, some}
 use Prim.Native.Nat.{ℕ, _<_}
-use lib.Dec.{eqb}
 use lib.ListN.{getD, take}
-use Rattle.logic.specs.Rules.{both}
 use Rattle.logic.specs.Answers.{Answer, refused, answered}
 use Rattle.gate.specs.Gates.{lawful}
-use Rattle.record.specs.Jobs.{mostControls, dataWires, ancillas, wires, freeLayout, gateLimit, costLimit, depthLimit, rows}
+use Rattle.record.specs.Jobs.{mostControls, dataWires, wires, freeLayout, gateLimit, costLimit, depthLimit, rows}
 use Rattle.verify.specs.declared.Measures.{Measures}
-use Rattle.parity.specs.Parity.{isOdd, tableParity}
 use Rattle.columns.specs.Wanted.{wantedOf}
 use Rattle.choice.specs.Choices.{Choice}
-use Rattle.solver.specs.declared.Task.{Task}
+use Rattle.node.specs.declared.Task.{Task}
 use Rattle.search.specs.Outcomes.{GateSet, recordOf, Found}
 
 unfoldable pub taskOf : List ℕ → Task
@@ -27,10 +24,6 @@ taskOf job = record {
   «cost_limit» = costLimit job;
   «depth_limit» = depthLimit job;
 }
-
--- four data wires, no ancilla, gates of at most two controls, an odd permutation
-unfoldable pub alwaysNone : List ℕ → Bool
-alwaysNone job = both (both (eqb (dataWires job) 4) (eqb (ancillas job) 0)) (both (eqb (mostControls job) 2) (isOdd (tableParity job)))
 
 -- each of these gates is lawful for the job
 abbrev pub Lawfuls : List ℕ → List ℕ → Type 0

@@ -2,20 +2,21 @@
 use mathlib.Core.List.{List, _++_}
 use mathlib.Core.Option.{Option, none, some}
 use Prim.Native.Nat.{ℕ}
-use lib.Dec.{leb, eqb}
+use lib.Dec.{eqb}
 use lib.ListN.{length, drop}
-use Rattle.logic.specs.Rules.{pick, rule, andThen}
+use Rattle.logic.specs.Rules.{pick}
 use Rattle.logic.specs.Answers.{Answer, refused, answered}
 use Rattle.gate.specs.Gates.{gatesFor}
 use Rattle.table.specs.Layouts.{layoutsFor}
 use Rattle.table.specs.Rows.{realizes}
 use Rattle.record.specs.Jobs.{longer, mostControls, dataWires, ancillas, wires, freeLayout, gateLimit, costLimit, depthLimit}
-use Rattle.record.specs.Jobs.{priceOf, durationOf, rows, jobCode}
+use Rattle.record.specs.Jobs.{priceOf, durationOf, rows}
 use Rattle.record.specs.Circuits.{circuitBytes}
 use Rattle.verify.specs.declared.Measures.{Measures}
 use Rattle.verify.specs.Calls.{measuresOf}
 use Rattle.choice.specs.Choices.{Choice}
 use Rattle.problem.specs.Problems.{Problem, firstGood}
+unfoldable pub use Rattle.codes.specs.Codes.{searchCode}
 use Rattle.search.specs.declared.Searched.{Searched}
 
 -- the gates that a list may be made of, with their prices and durations
@@ -64,10 +65,6 @@ outcomeOf G job (some c) = answered (foundOf G job c)
 -- a search among these gates, after checks that gave a code
 unfoldable pub searchOver : GateSet → List ℕ → ℕ → Answer Found
 searchOver G job code = pick (eqb code 0) (outcomeOf G job (firstGood (problemOver G job))) (refused code)
-
--- "after the job's checks: is the answer buffer at least 15 bytes? If not, 13."
-unfoldable pub searchCode : List ℕ → ℕ → ℕ
-searchCode job room = andThen (jobCode job) (rule (leb 15 room) 13 0)
 
 unfoldable pub searchOf : List ℕ → ℕ → Answer Found
 searchOf job room = searchOver (ownSet job) job (searchCode job room)

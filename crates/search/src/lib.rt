@@ -1,46 +1,22 @@
 // The public call of the search: a job's record to a problem, and the solver's answer to a record.
 use choice::Best;
 use circuit::Weights;
-use solver::Task;
+use node::Task;
 use verify::Measures;
 ghost use mathlib.Core.Path.{_≡_};
-ghost use Prim.Native.Nat.{ℕ, _≤_, _<_};
-ghost use lib.ListN.{length, getD, take};
-ghost use Rattle.circuit.specs.Measure.{weightOf};
+ghost use Prim.Native.Nat.{_≤_};
+ghost use lib.ListN.{length, take};
 ghost use Rattle.record.specs.Jobs.{priceOf, durationOf, jobCode};
 ghost use Rattle.verify.specs.Calls.{measuresOf};
 ghost use Rattle.choice.specs.Inner.{view};
 ghost use Rattle.problem.specs.Problems.{firstGood};
-ghost use Rattle.search.specs.Outcomes.{GateSet, problemOver, problemOf, searchCode, searchOf, reported, written, searchedAnswer, sizeIn};
-ghost use Rattle.search.specs.Inner.{taskOf, alwaysNone, Lawfuls, Tabled, toldOf};
+ghost use Rattle.search.specs.Outcomes.{GateSet, problemOver, problemOf, searchOf, reported, written, searchedAnswer, sizeIn};
+ghost use Rattle.search.specs.Inner.{taskOf, Lawfuls, Tabled, toldOf};
 
 // What the search answers: a refusal's number, or the record's length and measures.
 pub enum Searched {
     Refused(u8),
     Found(usize, Measures),
-}
-
-// Whether no list of any length realizes the table: four data wires, no ancilla, gates of at most two controls, an odd permutation.
-fn always_none(job: &[u8]) -> bool
-    ensures { λ r. ⌜ r ≡ alwaysNone (now (job .entry)) ⌝ }
-{
-    let bare = logic::both(record::data_wires(job) == 4, record::ancillas(job) == 0);
-    let odd = logic::both(record::most_controls(job) == 2, parity::odd_table(job));
-    logic::both(bare, odd)
-}
-
-// The weight of each gate of a table, with room for the longest one.
-fn weigh(weights: Weights, gates: &[u8]) -> [u8; 75]
-    requires { ⌜ length (now gates) ≤ 75 ⌝ }
-    ensures { λ r. ⌜ ((i : ℕ) → i < length (now (gates .entry)) → getD r i 0 ≡ weightOf weights (getD (now (gates .entry)) i 0)) ⌝ }
-{
-    let mut table = [0u8; 75];
-    let mut i = 0;
-    while i < gates.len() {
-        table[i] = circuit::weight(weights, gates[i]);
-        i += 1;
-    }
-    table
 }
 
 // What the job asks of the solver.
@@ -73,7 +49,7 @@ pub fn solve_among(
     ensures { λ r. ⌜ ((G : GateSet) → Tabled G gates prices durations count → view r ≡ firstGood (problemOver G (now (job .entry)))) ⌝ }
     ensures { λ r. ⌜ r .len ≤ 12 ⌝ }
 {
-    if always_none(job) {
+    if asking::always_none(job) {
         return choice::nothing();
     }
     solver::solve(
@@ -92,10 +68,10 @@ fn first_good(job: &[u8]) -> Best
 {
     let most = record::most_controls(job);
     let wires = record::wires(job);
-    let count = gate::gate_count(most, wires);
-    let gates = gate::gate_table(most, wires);
-    let prices = weigh(record::prices(job), &gates[..count]);
-    let durations = weigh(record::durations(job), &gates[..count]);
+    let count = gate_tables::gate_count(most, wires);
+    let gates = gate_tables::gate_table(most, wires);
+    let prices = asking::weigh(record::prices(job), &gates[..count]);
+    let durations = asking::weigh(record::durations(job), &gates[..count]);
     solve_among(job, count, gates, prices, durations)
 }
 
@@ -105,12 +81,6 @@ fn measures_of(job: &[u8], path: [u8; 12], len: usize) -> Measures
     ensures { λ r. ⌜ r ≡ measuresOf (priceOf (now (job .entry))) (durationOf (now (job .entry))) (take len path) ⌝ }
 {
     verify::measure_list(&path[..len], record::prices(job), record::durations(job))
-}
-
-fn search_code(job: &[u8], room: usize) -> u8
-    ensures { λ r. ⌜ r ≡ searchCode (now (job .entry)) room ⌝ }
-{
-    logic::and_then(record::job_code(job), logic::rule(15 <= room, 13, 0))
 }
 
 // Writes the first good choice of a job to `answer`, and tells of it with its measures.
@@ -138,7 +108,7 @@ pub fn search(job: &[u8], answer: &mut [u8]) -> Searched
     ensures { λ r. ⌜ sizeIn r ≤ 15 ⌝ }
     ensures { λ _. ⌜ now (answer .exit) ≡ written (searchOf (now (job .entry)) (length (now (answer .entry)))) (now (answer .entry)) ⌝ }
 {
-    let code = search_code(job, answer.len());
+    let code = codes::search_code(job, answer.len());
     if code != 0 {
         return Searched::Refused(code);
     }

@@ -1,5 +1,2 @@
-pub mod Nodes
-pub mod Reaches
 pub mod Searches
-pub mod Forms
 pub mod Handover

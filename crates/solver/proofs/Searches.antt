@@ -21,9 +21,10 @@ use Rattle.budget.specs.Heavy.{heavy}
 use Rattle.budget.specs.Sums.{Marked}
 use Rattle.budget.proofs.Afford.{reach-most}
 use Rattle.budget.proofs.Sums.{sums-marked}
-use Rattle.solver.specs.declared.Task.{Task}
-use Rattle.solver.specs.declared.Least.{Least}
-use Rattle.solver.specs.States.{Fair, Posed, Limited, Bounded, Priced, limitedTo}
+use Rattle.node.specs.declared.Task.{Task}
+use Rattle.node.specs.declared.Least.{Least}
+use Rattle.node.specs.States.{Fair, Posed, Limited, Bounded}
+use Rattle.solver.specs.States.{Priced, limitedTo}
 
 -- the gates that a cost buys
 pub bought : (P : Problem) (least : Least) → Bounded P least → (limit : ℕ) (a : Choice) → List·Memᴰ a (choices P) → good P a ≡ true → a .cost ≤ limit

@@ -1,17 +1,18 @@
 -- What running, measuring and verifying (document 01: judging) answer.
 use mathlib.Core.Bool.{Bool, true, false}
 use mathlib.Core.List.{List, [], _∷_}
-use Prim.Native.Nat.{ℕ, _^_}
-use lib.Dec.{ltb, leb, eqb}
+use Prim.Native.Nat.{ℕ}
+use lib.Dec.{leb}
 use lib.ListN.{length, getD}
-use Rattle.logic.specs.Rules.{both, implies, pick, rule, andThen}
+use Rattle.logic.specs.Rules.{pick, rule, andThen}
 use Rattle.logic.specs.Answers.{Answer, refused, answered, answerOf}
 use Rattle.circuit.specs.Run.{forwards, backwards}
 use Rattle.circuit.specs.Measure.{cost, readyTimes, greatest}
 use Rattle.table.specs.Layouts.{allowed}
 use Rattle.table.specs.Rows.{agrees, clean}
-use Rattle.record.specs.Jobs.{longer, dataWires, ancillas, wires, freeLayout, gateLimit, costLimit, depthLimit, priceOf, durationOf, rows, jobCode}
-use Rattle.record.specs.Circuits.{marked, layoutOf, gates, circuitCode}
+use Rattle.record.specs.Jobs.{dataWires, freeLayout, gateLimit, costLimit, depthLimit, priceOf, durationOf, rows}
+use Rattle.record.specs.Circuits.{layoutOf, gates}
+unfoldable pub use Rattle.codes.specs.Codes.{runCode, sameWires, markFits, circuitCodeFor, measureCode}
 use Rattle.verify.specs.declared.Measures.{Measures}
 use Rattle.verify.specs.declared.Ran.{Ran}
 use Rattle.verify.specs.declared.Ran.the-variants.{Value}
@@ -26,10 +27,6 @@ ranAnswer (Value v) = answered v
 abbrev pub measuredAnswer : Measured → Answer Measures
 measuredAnswer (Measured.Refused code) = refused code
 measuredAnswer (Within m) = answered m
-
--- the circuit's checks, then "is the value below 2^W? If not, 20."
-unfoldable pub runCode : List ℕ → ℕ → ℕ
-runCode c v = andThen (circuitCode c) (rule (ltb v (2 ^ wires c)) 20 0)
 
 -- one way or the other
 unfoldable pub runOf : Bool → List ℕ → ℕ → Answer ℕ
@@ -65,22 +62,6 @@ readyOf m = m .ready0 ∷ m .ready1 ∷ m .ready2 ∷ m .ready3 ∷ m .ready4 �
 -- those of a circuit, at a job's prices and durations
 abbrev pub measuresFor : List ℕ → List ℕ → Measures
 measuresFor job c = measuresOf (priceOf job) (durationOf job) (gates c)
-
--- "same n and m? If not, 12."
-unfoldable pub sameWires : List ℕ → List ℕ → Bool
-sameWires job c = both (eqb (dataWires job) (dataWires c)) (eqb (ancillas job) (ancillas c))
-
--- "28 in judging and measuring, a marked circuit under a shorter job, directly after 12"
-unfoldable pub markFits : List ℕ → List ℕ → Bool
-markFits job c = implies (marked c) (longer job)
-
--- "the circuit's, then 12", and 28: the checks of a circuit for a job
-unfoldable pub circuitCodeFor : List ℕ → List ℕ → ℕ
-circuitCodeFor job c = andThen (circuitCode c) (rule (sameWires job c) 12 (rule (markFits job c) 28 0))
-
--- "the job's checks", then those
-unfoldable pub measureCode : List ℕ → List ℕ → ℕ
-measureCode job c = andThen (jobCode job) (circuitCodeFor job c)
 
 unfoldable pub measureOf : List ℕ → List ℕ → Answer Measures
 measureOf job c = answerOf (measureCode job c) (measuresFor job c)

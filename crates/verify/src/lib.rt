@@ -8,9 +8,8 @@ ghost use Rattle.circuit.specs.Run.{forwards, backwards};
 ghost use Rattle.circuit.specs.Measure.{weightOf};
 ghost use Rattle.record.specs.Jobs.{jobCode};
 ghost use Rattle.record.specs.Circuits.{circuitCode};
-ghost use Rattle.verify.specs.Calls.{ranAnswer, runCode, runOf, forwardsOf, backwardsOf};
-ghost use Rattle.verify.specs.Calls.{measuredAnswer, measuresWith, measuresOf, measuresFor};
-ghost use Rattle.verify.specs.Calls.{sameWires, markFits, circuitCodeFor, measureCode, measureOf};
+ghost use Rattle.verify.specs.Calls.{ranAnswer, runOf, forwardsOf, backwardsOf};
+ghost use Rattle.verify.specs.Calls.{measuredAnswer, measuresWith, measuresOf, measuresFor, measureOf};
 ghost use Rattle.verify.specs.Calls.{limitRules, limitsCode, verifyRest, verifyOf};
 
 // Gates, cost and depth, and the ready time of each of five wires: 0 for a wire that the circuit lacks.
@@ -37,14 +36,6 @@ pub enum Measured {
     Within(Measures),
 }
 
-fn run_code(c: &[u8], value: u8) -> u8
-    ensures { λ r. ⌜ r ≡ runCode (now (c .entry)) value ⌝ }
-{
-    let code = record::circuit_code(c);
-    let w = record::wires(c);
-    logic::and_then(code, logic::rule(logic::wide(value) < (1 << w), 20, 0))
-}
-
 fn run_list(forth: bool, list: &[u8], value: usize) -> usize
     ensures { λ r. ⌜ r ≡ pick forth (forwards (now (list .entry)) value) (backwards (now (list .entry)) value) ⌝ }
 {
@@ -59,7 +50,7 @@ fn run_list(forth: bool, list: &[u8], value: usize) -> usize
 fn run(forth: bool, c: &[u8], value: u8) -> Ran
     ensures { λ r. ⌜ ranAnswer r ≡ runOf forth (now (c .entry)) value ⌝ }
 {
-    let code = run_code(c, value);
+    let code = codes::run_code(c, value);
     if code != 0 {
         return Ran::Refused(code);
     }
@@ -107,41 +98,6 @@ pub fn measure_list(list: &[u8], prices: Weights, durations: Weights) -> Measure
     measures_with(count, cost, times)
 }
 
-fn same_wires(job: &[u8], c: &[u8]) -> bool
-    ensures { λ r. ⌜ r ≡ sameWires (now (job .entry)) (now (c .entry)) ⌝ }
-{
-    logic::both(
-        record::data_wires(job) == record::data_wires(c),
-        record::ancillas(job) == record::ancillas(c),
-    )
-}
-
-// Whether the circuit is unmarked, or the job a longer one.
-fn mark_fits(job: &[u8], c: &[u8]) -> bool
-    ensures { λ r. ⌜ r ≡ markFits (now (job .entry)) (now (c .entry)) ⌝ }
-{
-    logic::implies(record::marked(c), record::longer(job))
-}
-
-// The rules of a circuit for a job: its own, then that it has the job's wires and no mark that the job has not.
-pub fn circuit_code_for(job: &[u8], c: &[u8]) -> u8
-    ensures { λ r. ⌜ r ≡ circuitCodeFor (now (job .entry)) (now (c .entry)) ⌝ }
-{
-    let code = record::circuit_code(c);
-    let same = same_wires(job, c);
-    let fits = mark_fits(job, c);
-    let rest = logic::rule(same, 12, logic::rule(fits, 28, 0));
-    logic::and_then(code, rest)
-}
-
-fn measure_code(job: &[u8], c: &[u8]) -> u8
-    ensures { λ r. ⌜ r ≡ measureCode (now (job .entry)) (now (c .entry)) ⌝ }
-{
-    let code = record::job_code(job);
-    let rest = circuit_code_for(job, c);
-    logic::and_then(code, rest)
-}
-
 // The measures of a sound circuit at a job's prices and durations.
 fn measures_for(job: &[u8], c: &[u8]) -> Measures
     requires { ⌜ circuitCode (now c) ≡ 0 ⌝ }
@@ -158,7 +114,7 @@ fn measures_for(job: &[u8], c: &[u8]) -> Measures
 pub fn measure(job: &[u8], c: &[u8]) -> Measured
     ensures { λ r. ⌜ measuredAnswer r ≡ measureOf (now (job .entry)) (now (c .entry)) ⌝ }
 {
-    let code = measure_code(job, c);
+    let code = codes::measure_code(job, c);
     if code != 0 {
         return Measured::Refused(code);
     }
@@ -202,7 +158,7 @@ pub fn verify_rest(job: &[u8], c: &[u8], m: Measures) -> u8
 pub fn verify(job: &[u8], c: &[u8]) -> Measured
     ensures { λ r. ⌜ measuredAnswer r ≡ verifyOf (now (job .entry)) (now (c .entry)) ⌝ }
 {
-    let code = measure_code(job, c);
+    let code = codes::measure_code(job, c);
     if code != 0 {
         return Measured::Refused(code);
     }

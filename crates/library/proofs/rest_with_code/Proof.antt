@@ -3,7 +3,7 @@ use borrow.Author.Needs.{needs}
 use Rattle.logic.specs.Rules.{rule}
 use Rattle.logic.specs.Lists.{allOf}
 use Rattle.library.specs.Calls.{restWithCode}
-use Rattle.library.specs.Inner.{timed}
+use Rattle.entries.specs.Inner.{timed}
 use Rattle.library.proofs.Sound.{all-listed}
 use Rattle.library.proofs.rest_with_code.Statement.{statement}
 use Rattle.library.proofs.rest_with_code.Tie as tie

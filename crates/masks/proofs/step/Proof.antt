@@ -9,7 +9,8 @@ use lib.ListN.{getD}
 use Rattle.logic.proofs.Bits.{shifted-one}
 use Rattle.gate.specs.Gates.{targetOf, maskOf}
 use Rattle.normal.specs.Forms.{wiresOf}
-use Rattle.masks.specs.Words.{clearOf, sleepWord, cancelWord, stepped}
+use Rattle.mask_words.specs.Words.{clearOf, sleepWord, cancelWord}
+use Rattle.masks.specs.Words.{stepped}
 use Rattle.masks.proofs.step.Statement.{statement}
 use Rattle.masks.proofs.step.Tie as tie
 

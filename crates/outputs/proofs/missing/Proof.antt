@@ -1,7 +1,7 @@
 -- The sum of four bits is the count below n, for either kind of layout.
 use borrow.Author.Needs.{needs}
 use mathlib.Core.Path.{refl, _∙_}
-use Rattle.outputs.proofs.Planned.{owed-few, free-owed, fixed-owed}
+use Rattle.outputs.proofs.Counted.{owed-few, free-owed, fixed-owed}
 use Rattle.outputs.proofs.missing.Statement.{statement}
 use Rattle.outputs.proofs.missing.Tie as tie
 

@@ -5,7 +5,7 @@ use lib.Bits.{bitAnd}
 use Rattle.logic.specs.Rules.{allBelow}
 use Rattle.logic.proofs.Counts.{bit-le}
 use Rattle.outputs.specs.Owed.{missed}
-use Rattle.outputs.proofs.Joined.{missed-each}
+use Rattle.outputs.proofs.Counted.{missed-each}
 use Rattle.outputs.proofs.nowhere.Statement.{statement}
 use Rattle.outputs.proofs.nowhere.Tie as tie
 

@@ -1,7 +1,7 @@
 use borrow.Author.Needs.{needs}
 use native.Mathlib.Omega.{arith}
 use lib.Dec.{eqb}
-use Rattle.outputs.proofs.Joined.{pick-le}
+use Rattle.outputs.proofs.Counted.{pick-le}
 use Rattle.outputs.proofs.sum.Statement.{statement}
 use Rattle.outputs.proofs.sum.Tie as tie
 

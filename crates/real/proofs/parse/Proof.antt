@@ -7,8 +7,8 @@ use native.Mathlib.Omega.{arith}
 use borrow.Author.Tests.{not-true, not-false}
 use lib.ListN.{length, take}
 use lib.Seq.{length-take-le}
-use Rattle.real.specs.declared.Heading.{Heading}
-use Rattle.real.specs.Inner.{HeadingIs}
+use Rattle.headings.specs.declared.Heading.{Heading}
+use Rattle.headings.specs.Heading.{HeadingIs}
 use Rattle.real.proofs.Outcomes.{spare-few, wires-are, no-heading, no-body, crowded, taken}
 use borrow.Author.Needs.{needs}
 use Rattle.real.proofs.parse.Statement.{statement}

@@ -8,8 +8,9 @@ use Rattle.choice.specs.Inner.{view}
 use Rattle.problem.specs.Problems.{Problem}
 use Rattle.problem.specs.Inner.{Dearer, Shortest}
 use Rattle.problem.proofs.Limits.{final, found-cost}
-use Rattle.solver.specs.declared.Task.{Task}
-use Rattle.solver.specs.States.{Posed, Bounded, Limited, Ready, Supplied, limitedTo}
+use Rattle.node.specs.declared.Task.{Task}
+use Rattle.node.specs.States.{Posed, Bounded, Limited, Ready, Supplied}
+use Rattle.solver.specs.States.{limitedTo}
 use Rattle.solver.proofs.Searches.{fair-limited, unmarked, priced-below}
 use Rattle.solver.proofs.cheaper.Statement.{statement}
 use Rattle.solver.proofs.cheaper.Tie as tie

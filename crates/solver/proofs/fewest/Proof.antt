@@ -8,7 +8,7 @@ use Rattle.choice.proofs.Held.{held-none}
 use Rattle.problem.specs.Problems.{Problem}
 use Rattle.problem.specs.Inner.{Past}
 use Rattle.problem.proofs.Limits.{past-next, shortest}
-use Rattle.solver.specs.States.{Posed, Bounded}
+use Rattle.node.specs.States.{Posed, Bounded}
 use Rattle.solver.proofs.fewest.Statement.{statement}
 use Rattle.solver.proofs.fewest.Tie as tie
 

@@ -1,14 +1,15 @@
 -- Short lists are looked at first, with no filter. What that finds caps the costs to try; where it finds nothing, the stages go on.
 use mathlib.Core.Path.{_≡_, sym, _∙_, subst}
 use mathlib.Core.List.{[]}
-use Prim.Native.Nat.{ℕ, _≤_}
+use Prim.Native.Nat.{ℕ, _+_, _-_}
 use native.Mathlib.Omega.{arith}
 use borrow.Author.Needs.{needs}
 use borrow.Author.Tests.{not-false}
 use Rattle.problem.specs.Problems.{Problem}
 use Rattle.problem.proofs.Limits.{past-none}
 use Rattle.filters.proofs.Sieves.{no-sieve}
-use Rattle.solver.specs.States.{Posed, Limited, Bounded, Supplied, Deepened, Settled}
+use Rattle.node.specs.States.{Posed, Limited, Bounded, Supplied}
+use Rattle.solver.specs.States.{Deepened, Settled}
 use Rattle.solver.proofs.Handover.{supplied, deepened-held}
 use Rattle.solver.proofs.solve.Statement.{statement}
 use Rattle.solver.proofs.solve.Tie as tie
@@ -64,28 +65,24 @@ returns c =
       c .ended .ensures .1,
     )
 
--- what the search with a filter asks for, and what it comes to
-module _ (k : tie.After-fewest) (long : 7 ≤ start k .args .task .«gate_limit») where
-  six : most k ≡ 6
-  six = let e = k .before .before .early .ensures in omega arith
-
-  from-six : (P : Problem) → Posed P (start k .args .task) (start k .args .gates .now) (start k .args .prices .now) (start k .args .durations .now) → Limited P (start k .args .task)
-      → Deepened P (P .mostCost) 6 (k .fewest .result)
-  from-six P posed limited = subst (λ (l : ℕ). Deepened P (P .mostCost) l (k .fewest .result)) six (deepened k P posed limited)
+-- the search with a filter goes on one gate further
+further : (k : tie.After-fewest) (P : Problem) → Posed P (start k .args .task) (start k .args .gates .now) (start k .args .prices .now) (start k .args .durations .now)
+    → Limited P (start k .args .task) → Deepened P (P .mostCost) (most k + 1 - 1) (k .fewest .result)
+further k P posed limited = subst (λ (l : ℕ). Deepened P (P .mostCost) l (k .fewest .result)) (omega arith) (deepened k P posed limited)
 
 filtered-requires : tie.Need-filtered-requires
 filtered-requires c κs =
     let k = c .before .before .before in
     let long = c .before .before .if1 .left in
-    (start k .pre .0, ((k .before .before .before .before .least-of .ensures .0, (omega arith, start k .pre .1 .1)), k .fewest .ensures .1))
+    let e = k .before .before .early .ensures in
+    (start k .pre .0, ((k .before .before .before .before .least-of .ensures .0, (omega arith, start k .pre .1 .1)), (omega arith, (omega arith, k .fewest .ensures .1))))
 
 returns-2 : tie.Need-returns-2
 returns-2 c =
-    let k = c .before .before .before .before .before in
-    let long = c .before .before .before .before .if1 .left in (
+    let k = c .before .before .before .before .before in (
       (λ P posed limited.
           c .ended2 .ensures .0 P (subst (λ (l : ℕ). Settled P l (c .before .filtered .result)) (limited .gates-most)
-          (c .before .filtered .ensures .0 P posed (bounded k P posed limited) limited (from-six k (omega arith) P posed limited)))),
+          (c .before .filtered .ensures .0 P posed (bounded k P posed limited) limited (further k P posed limited)))),
       c .ended2 .ensures .1,
     )
 
@@ -108,19 +105,19 @@ filtered-requires-2 : tie.Need-filtered-requires-2
 filtered-requires-2 c κs =
     let k = c .before .before .before .before .before in
     let long = c .before .before .before .before .if1 .left in
-    (start k .pre .0, ((k .before .before .before .before .least-of .ensures .0, (omega arith, start k .pre .1 .1)), k .fewest .ensures .1))
+    let e = k .before .before .early .ensures in
+    (start k .pre .0, ((k .before .before .before .before .least-of .ensures .0, (omega arith, start k .pre .1 .1)), (omega arith, (omega arith, k .fewest .ensures .1))))
 
 returns-4 : tie.Need-returns-4
 returns-4 c =
-    let k = c .before .before .before .before .before .before .before in
-    let long = c .before .before .before .before .before .before .if1 .left in (
+    let k = c .before .before .before .before .before .before .before in (
       (λ P posed limited.
           c .ended4 .ensures .0 P (subst (λ (l : ℕ). Settled P l (c .before .filtered2 .result)) (limited .gates-most)
-          (c .before .filtered2 .ensures .0 P posed (bounded k P posed limited) limited (from-six k (omega arith) P posed limited)))),
+          (c .before .filtered2 .ensures .0 P posed (bounded k P posed limited) limited (further k P posed limited)))),
       c .ended4 .ensures .1,
     )
 
 pub solve-spec : {M : Type 1} → statement M
 solve-spec =
     tie.close (tie.spec (λ c κs. search needs) (λ c κs. search needs) (λ c κs. search needs) (λ c. search needs) fewest-requires (λ c. search needs) settle-requires (λ c κs. search needs) returns
-    filtered-requires (λ c κs. search needs) returns-2 (λ c κs. search needs) (λ c. search needs) settle-requires-2 (λ c κs. search needs) returns-3 filtered-requires-2 (λ c κs. search needs) returns-4)
+    (λ c. let e = c .before .before .before .before .before .early .ensures in search needs) filtered-requires (λ c κs. search needs) returns-2 (λ c κs. search needs) (λ c. search needs) settle-requires-2 (λ c κs. search needs) returns-3 (λ c. let e = c .before .before .before .before .before .before .before .early .ensures in search needs) filtered-requires-2 (λ c κs. search needs) returns-4)

@@ -9,7 +9,8 @@ stage-requires : tie.Need-stage-requires
 stage-requires c κs =
     let s = c .before .before .before .before .before in
     let r = s .pre .1 .0 in
-    (s .pre .0, ((r .0, r .1 .1), ((omega arith, r .1), s .pre .1 .1)))
+    let q = s .pre .1 .1 in
+    (s .pre .0, ((r .0, r .1 .1), ((q .0, (r .1 .0, r .1 .1)), q .1 .1)))
 
 returns : tie.Need-returns
 returns c =
@@ -20,7 +21,8 @@ stage-requires-2 : tie.Need-stage-requires-2
 stage-requires-2 c κs =
     let s = c .before .before .before .before .before in
     let r = s .pre .1 .0 in
-    (s .pre .0, ((r .0, r .1 .1), ((omega arith, (omega arith, omega arith)), s .pre .1 .1)))
+    let q = s .pre .1 .1 in
+    (s .pre .0, ((r .0, r .1 .1), ((q .0, (q .1 .0, omega arith)), q .1 .1)))
 
 returns-2 : tie.Need-returns-2
 returns-2 c =

@@ -1,0 +1,32 @@
+-- The codes of running, measuring and searching: document 01's number of the first rule broken, or 0.
+use mathlib.Core.Bool.{Bool}
+use mathlib.Core.List.{List}
+use Prim.Native.Nat.{ℕ, _^_}
+use lib.Dec.{ltb, leb, eqb}
+use Rattle.logic.specs.Rules.{both, implies, rule, andThen}
+use Rattle.record.specs.Jobs.{longer, dataWires, ancillas, wires, jobCode}
+use Rattle.record.specs.Circuits.{marked, circuitCode}
+
+-- the circuit's checks, then "is the value below 2^W? If not, 20."
+unfoldable pub runCode : List ℕ → ℕ → ℕ
+runCode c v = andThen (circuitCode c) (rule (ltb v (2 ^ wires c)) 20 0)
+
+-- "same n and m? If not, 12."
+unfoldable pub sameWires : List ℕ → List ℕ → Bool
+sameWires job c = both (eqb (dataWires job) (dataWires c)) (eqb (ancillas job) (ancillas c))
+
+-- "28 in judging and measuring, a marked circuit under a shorter job, directly after 12"
+unfoldable pub markFits : List ℕ → List ℕ → Bool
+markFits job c = implies (marked c) (longer job)
+
+-- "the circuit's, then 12", and 28: the checks of a circuit for a job
+unfoldable pub circuitCodeFor : List ℕ → List ℕ → ℕ
+circuitCodeFor job c = andThen (circuitCode c) (rule (sameWires job c) 12 (rule (markFits job c) 28 0))
+
+-- "the job's checks", then those
+unfoldable pub measureCode : List ℕ → List ℕ → ℕ
+measureCode job c = andThen (jobCode job) (circuitCodeFor job c)
+
+-- "after the job's checks: is the answer buffer at least 15 bytes? If not, 13."
+unfoldable pub searchCode : List ℕ → ℕ → ℕ
+searchCode job room = andThen (jobCode job) (rule (leb 15 room) 13 0)

@@ -1,0 +1,130 @@
+// The walk through all gate lists below a node, depth first, cutting only what cannot change the answer.
+use choice::Best;
+use filters::Reach;
+use node::Entry;
+use node::Least;
+use node::Node;
+use node::Task;
+ghost use mathlib.Core.Path.{_≡_};
+ghost use mathlib.Core.List.{[]};
+ghost use mathlib.Core.Option.{none};
+ghost use Prim.Native.Nat.{_+_, _-_, _≤_, _<_};
+ghost use Rattle.circuit.specs.Measure.{cost};
+ghost use Rattle.choice.specs.Inner.{view};
+ghost use Rattle.problem.specs.Problems.{Problem};
+ghost use Rattle.problem.specs.Inner.{lookedUnder};
+ghost use Rattle.pruned.specs.Pruned.{triedUnder};
+ghost use Rattle.outputs.specs.Owed.{lost};
+ghost use Rattle.node.specs.declared.Task.{Task};
+ghost use Rattle.node.specs.States.{listOf, Supplied, Small, Fair, Ready, Needs, Posed, Bounded, At, needless};
+
+// What is held once every list that begins with the node's and goes on by at most `remaining` gates, none of them needless, was looked at.
+fn dfs(
+    gates: &[u8],
+    prices: &[u8],
+    durations: &[u8],
+    task: Task,
+    least: Least,
+    s: Node,
+    remaining: usize,
+    best: Best,
+    bits: &[u64],
+    reach: Reach,
+) -> Best
+    requires { ⌜ Supplied (now gates) (now prices) (now durations) task (now bits) reach ⌝ }
+    requires { ⌜ Fair task × (least .extra ≤ 255) ⌝ }
+    requires { ⌜ (s .len + remaining ≤ 12) × (best .len ≤ 12) ⌝ }
+    requires { ⌜ Small s ⌝ }
+    ensures { λ r. ⌜ ((P : Problem) → Posed P task (now (gates .entry)) (now (prices .entry)) (now (durations .entry)) → Bounded P least → At P s → view r ≡ triedUnder needless P (task .«cost_limit») (listOf s) remaining (view best)) ⌝ }
+    ensures { λ r. ⌜ r .len ≤ 12 ⌝ }
+{
+    let most = node::affordable(task, least, s, remaining, best);
+    let wanted = task.wanted;
+    let columns = s.columns;
+    let plan = plan::plan_of(wanted, columns, task.outputs, task.free);
+    if logic::either(most < plan.lost, most < s.needs) {
+        return best;
+    }
+    let mut b = node::consider_met(task, s, plan.lost, best);
+    if most == 0 {
+        return b;
+    }
+    let table = products::table_of(task.controls, wanted, columns);
+    let wires = filters::open_wires(bits, reach, columns, most - 1);
+    let mut i = 0;
+    while i < gates.len() {
+        let g = gates[i];
+        if filters::open(wires, g) {
+            let entry = Entry {
+                gate: g,
+                price: prices[i],
+                duration: durations[i],
+            };
+            if node::promising(&table, plan, task, s, entry, most, b, bits, reach) {
+                let node = node::advance(&table, task, least, s, entry);
+                let found = dfs(
+                    gates,
+                    prices,
+                    durations,
+                    task,
+                    least,
+                    node,
+                    remaining - 1,
+                    b,
+                    bits,
+                    reach,
+                );
+                b = found;
+            }
+        }
+        i += 1;
+    }
+    b
+}
+
+// The node of the empty list.
+fn root(needs: usize) -> Node
+    requires { ⌜ needs ≤ 12 ⌝ }
+    ensures { λ r. ⌜ (r .len ≡ 0) × Small r ⌝ }
+    ensures { λ r. ⌜ ((P : Problem) → Needs P [] needs → At P r) ⌝ }
+{
+    Node {
+        columns: columns::start_columns(),
+        times: [0u16; 5],
+        cost: 0,
+        path: [0u8; 12],
+        len: 0,
+        needs,
+        marks: masks::start(),
+    }
+}
+
+// One search: the first of the lists that cost at most the task's limit and have at most `most` gates.
+pub fn run(
+    gates: &[u8],
+    prices: &[u8],
+    durations: &[u8],
+    task: Task,
+    least: Least,
+    most: usize,
+    bits: &[u64],
+    reach: Reach,
+) -> Best
+    requires { ⌜ Supplied (now gates) (now prices) (now durations) task (now bits) reach ⌝ }
+    requires { ⌜ Ready task least × (most ≤ 12) ⌝ }
+    ensures { λ r. ⌜ ((P : Problem) → Posed P task (now (gates .entry)) (now (prices .entry)) (now (durations .entry)) → Bounded P least → view r ≡ lookedUnder P (task .«cost_limit») [] most none) ⌝ }
+    ensures { λ r. ⌜ r .len ≤ 12 ⌝ }
+{
+    dfs(
+        gates,
+        prices,
+        durations,
+        task,
+        least,
+        root(least.needs),
+        most,
+        choice::nothing(),
+        bits,
+        reach,
+    )
+}

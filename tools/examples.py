@@ -8,6 +8,7 @@ Run it in the repository's root: python3 tools/examples.py
 
 import os
 
+import batch_vectors
 import jobs
 import reference
 
@@ -51,6 +52,7 @@ t3 a d c
 MEANINGS = {14: "no circuit within the limits realizes the table",
             15: "the job allows the plain layout only",
             16: "the circuit does not realize the table",
+            26: "the batch is not up to 64 whole records of 20 or 28 bytes",
             31: "the circuit has a gate that is not in the library"}
 
 # a device of three wires in a line: each wire has a NOT, and neighbours a CNOT either way
@@ -113,6 +115,19 @@ def finding(job, gates=None):
     return "found {} {} {} {}\n".format(*measures, circuit.hex().upper())
 
 
+def lines(batch):
+    """What a batch prints: each job's line, or that it cannot be cut."""
+    records = batch_vectors.cut(batch)
+    if records is None:
+        return refusal(26)
+    return "".join(line(record) for record in records)
+
+
+def line(record):
+    code = reference.check_job(record)
+    return "refused %d\n" % code if code else finding(record).splitlines()[0] + "\n"
+
+
 def put(folder, name, content):
     os.makedirs(folder, exist_ok=True)
     mode = "wb" if isinstance(content, bytes) else "w"
@@ -134,6 +149,9 @@ def main():
         "across.circuit": bytes([0x60, 0x18, 1, ACROSS]),
         "line.library": library(LINE),
     }
+    far = files["across.job"]
+    files["morning.batch"] = far + jobs.job(jobs.after([0x25, 0x0A], 4), 2) + far[:1] + b"\x0d" + far[2:] + jobs.job(across, 0) + far
+    files["cut.batch"] = files["morning.batch"][:-1]
     records = {
         "gift.circuit": files["gift.circuit"],
         "gift.real": record(0x1B, gates_of(GIFT_PLAIN)),
@@ -149,6 +167,8 @@ def main():
         "gazbolk_search": ("search", "across.job"),
         "gazbolk_library": ("search", "across.job", "line.library"),
         "gazbolk_none": ("search", "across3.job", "line.library"),
+        "gazbolk_batch": ("batch", "morning.batch"),
+        "gazbolk_cut": ("batch", "cut.batch"),
     }
     for crate, (command, *names) in runs.items():
         folder = os.path.join("crates", crate)
@@ -156,7 +176,7 @@ def main():
             put(os.path.join(folder, "data"), name, files[name])
         put(folder, "args", "\n".join([command, *names]) + "\n")
         contents = [records.get(name, files[name]) for name in names]
-        put(folder, "stdout", (verdict if command == "verify" else finding)(*contents))
+        put(folder, "stdout", {"verify": verdict, "search": finding, "batch": lines}[command](*contents))
     for asked in ("gift.job", "example4.job"):
         for given in records:
             print(asked, given, verdict(files[asked], records[given]).replace("\n", " "))

@@ -1,8 +1,9 @@
 // The program for people: its first word is a command, and the words after it are names of files. A program has no exit status here, so
 // the first word of what it prints says how it went.
 use libc::STDOUT_FILENO;
-ghost use Prim.Native.Nat.{_≤_};
+ghost use Prim.Native.Nat.{_<_, _≤_};
 ghost use lib.ListN.{length};
+ghost use Rattle.files.specs.Parts.{batchParts};
 
 // Does what the words after the program's name ask for, or says what can be asked.
 pub fn run() {
@@ -13,20 +14,24 @@ pub fn run() {
 
 // Each command by its name and its number of words, the program's own name among them; a library may be named last.
 fn dispatch(word: &[u8], words: usize) {
-    if is_asked(word, b"verify", words, 4) {
+    if is_asked(word, b"verify", words, 4, 5) {
         verify(words == 5);
         return;
     }
-    if is_asked(word, b"search", words, 3) {
+    if is_asked(word, b"search", words, 3, 4) {
         search(words == 4);
+        return;
+    }
+    if is_asked(word, b"batch", words, 3, 3) {
+        batch();
         return;
     }
     usage();
 }
 
-// Whether a command has its name and all its words, or one more.
-fn is_asked(word: &[u8], command: &[u8], words: usize, all: usize) -> bool {
-    all <= words && words - all <= 1 && check::same(word, command)
+// Whether a command has its name and as many words as it takes.
+fn is_asked(word: &[u8], command: &[u8], words: usize, least: usize, most: usize) -> bool {
+    least <= words && words <= most && check::same(word, command)
 }
 
 fn usage() {
@@ -41,6 +46,11 @@ fn usage() {
     say(b"    RevLib text, which begins with .version.\n");
     say(b"    Prints `passed GATES COST DEPTH` and, on a second line, `ready` and the time at\n");
     say(b"    which each of five wires comes free; or `refused NUMBER` and what it means.\n");
+    say(b"\nbatch FILE\n");
+    say(b"    Searches for the cheapest circuit of each job of a batch. FILE names a file of up\n");
+    say(b"    to 64 job records of 20 or 28 bytes, back to back.\n");
+    say(b"    Prints for each job, in order and as soon as it is known, `found GATES COST\n");
+    say(b"    DEPTH RECORD` or `refused NUMBER`.\n");
     say(b"\nA file that cannot be read gets the line `unreadable NAME`.\n");
 }
 
@@ -64,6 +74,14 @@ fn search(named: bool) {
     let library = open_named(named, 3);
     if all_open(job, job, library) {
         print_finding(job, named, library);
+    }
+}
+
+// `gazbolk batch FILE`
+fn batch() {
+    let file = open(2);
+    if file >= 0 {
+        print_batch(file);
     }
 }
 
@@ -132,5 +150,30 @@ fn print_finding(job_file: i32, named: bool, library_file: i32) {
     let k = read_part(named, library_file, files::library_room(), &mut library);
     let mut out = [0u8; 128];
     let size = files::search_text(&job[..n], named, &library[..k], &mut out);
+    say(&out[..size]);
+}
+
+// Prints what a batch in an open file comes to. As much of it is read as tells it.
+fn print_batch(file: i32) {
+    let mut jobs = io::buffer();
+    let n = read_part(true, file, files::batch_room(), &mut jobs);
+    print_parts(&jobs[..n]);
+}
+
+// Each part is printed before the next job is looked at, so that a morning's work shows how far it is.
+fn print_parts(jobs: &[u8]) {
+    let count = files::batch_parts(jobs);
+    let mut i = 0;
+    while i < count {
+        print_part(jobs, i);
+        i += 1;
+    }
+}
+
+fn print_part(jobs: &[u8], i: usize)
+    requires { ⌜ i < length (batchParts (now jobs)) ⌝ }
+{
+    let mut out = [0u8; 128];
+    let size = files::batch_part(jobs, i, &mut out);
     say(&out[..size]);
 }

@@ -1,3 +1,4 @@
 pub mod Rooms
 pub mod Stops
 pub mod Ways
+pub mod Parts

@@ -1,14 +1,18 @@
-// From the bytes of files to what is printed: a job's, a circuit's, which is a record or RevLib text, and a library's where one is named.
+// From the bytes of files to what is printed: a job's, a circuit's, which is a record or RevLib text, a library's where one is named, and a
+// batch's.
 use real::Parsed;
 use search::Searched;
 use verify::Measured;
 ghost use mathlib.Core.Path.{_≡_};
-ghost use Prim.Native.Nat.{_≤_};
+ghost use Prim.Native.Nat.{_<_, _≤_};
 ghost use lib.ListN.{length};
 ghost use Rattle.verify.specs.Calls.{measuredAnswer};
 ghost use Rattle.search.specs.Outcomes.{reported, written, searchedAnswer, sizeIn};
 ghost use Rattle.text.specs.Text.{inFront};
 ghost use Rattle.revlib.specs.Reading.{readOf};
+ghost use Rattle.batch.specs.Records.{countOf, jobAt};
+ghost use Rattle.line.specs.Lines.{lineOf};
+ghost use Rattle.files.specs.Parts.{batchParts, partAt, TellingBatch};
 ghost use Rattle.files.specs.Files.{isText, given, verdict, finding, judged, verifyFile, verifyText, searchText, TellingJob, TellingCircuit, TellingLibrary};
 
 // How many bytes of a job are enough: one more than the longest has.
@@ -33,6 +37,14 @@ pub fn library_room() -> usize
     ensures { λ r. ⌜ r ≤ 4096 ⌝ }
 {
     226
+}
+
+// How many bytes of a batch's file are enough: one more than the longest batch has.
+pub fn batch_room() -> usize
+    ensures { λ r. ⌜ TellingBatch r ⌝ }
+    ensures { λ r. ⌜ r ≤ 4096 ⌝ }
+{
+    1793
 }
 
 fn is_text(file: &[u8]) -> bool
@@ -108,5 +120,43 @@ pub fn search_text(job: &[u8], named: bool, library: &[u8], out: &mut [u8]) -> u
     match find(job, named, library, &mut answer) {
         Searched::Refused(code) => report::refused_text(code, out),
         Searched::Found(size, m) => text::found_line(m, &answer[..size], out),
+    }
+}
+
+// How many parts are printed for a batch: a line for each job, or one refusal.
+pub fn batch_parts(jobs: &[u8]) -> usize
+    ensures { λ r. ⌜ r ≡ length (batchParts (now (jobs .entry))) ⌝ }
+{
+    let cut = batch::cut_off(jobs);
+    if cut.end == jobs.len() { cut.count } else { 1 }
+}
+
+// Searches for the circuit of job i of a batch and writes its line to the start of `out`; returns its length.
+fn job_line(jobs: &[u8], i: usize, out: &mut [u8]) -> usize
+    requires { ⌜ i < countOf (now jobs) ⌝ }
+    requires { ⌜ 128 ≤ length (now out) ⌝ }
+    ensures { λ r. ⌜ r ≡ length (lineOf (jobAt (now (jobs .entry)) i)) ⌝ }
+    ensures { λ r. ⌜ r ≤ 128 ⌝ }
+    ensures { λ _. ⌜ now (out .exit) ≡ inFront (lineOf (jobAt (now (jobs .entry)) i)) (now (out .entry)) ⌝ }
+{
+    let place = batch::record_at(jobs, i);
+    let start = place.start;
+    let end = place.end;
+    line::line(&jobs[start..end], out)
+}
+
+// Writes part i of what is printed for a batch to the start of `out`; returns its length. Nothing is searched for but job i.
+pub fn batch_part(jobs: &[u8], i: usize, out: &mut [u8]) -> usize
+    requires { ⌜ i < length (batchParts (now jobs)) ⌝ }
+    requires { ⌜ 128 ≤ length (now out) ⌝ }
+    ensures { λ r. ⌜ r ≡ length (partAt (now (jobs .entry)) i) ⌝ }
+    ensures { λ r. ⌜ r ≤ 128 ⌝ }
+    ensures { λ _. ⌜ now (out .exit) ≡ inFront (partAt (now (jobs .entry)) i) (now (out .entry)) ⌝ }
+{
+    let cut = batch::cut_off(jobs);
+    if cut.end == jobs.len() {
+        job_line(jobs, i, out)
+    } else {
+        report::refused_text(26, out)
     }
 }

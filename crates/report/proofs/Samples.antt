@@ -24,6 +24,10 @@ pub unlisted-sample : refusedText 31 ≡ bytes "refused 31\nthe circuit has a ga
 unfolding refusedText refusedLine decimal place said meaning circuitMeaning verifyMeaning libraryMeaning
 unlisted-sample = refl
 
+pub uncut-sample : refusedText 26 ≡ bytes "refused 26\nthe batch is not up to 64 whole records of 20 or 28 bytes\n"
+unfolding refusedText refusedLine decimal place said meaning circuitMeaning verifyMeaning libraryMeaning otherMeaning
+uncut-sample = refl
+
 -- 11 is reserved and never comes up
 pub unused-sample : refusedText 11 ≡ bytes "refused 11\nno rule has this number\n"
 unfolding refusedText refusedLine decimal place said meaning circuitMeaning verifyMeaning libraryMeaning otherMeaning

@@ -56,6 +56,8 @@ otherMeanings =
     ∷ (20 means "the value does not fit the circuit's wires")
     ∷ (22 means "the text departs from the form of a circuit")
     ∷ (23 means "the text has more than 12 gates")
+    ∷ (26 means "the batch is not up to 64 whole records of 20 or 28 bytes")
+    ∷ (27 means "the answers or the statuses have too few bytes")
     ∷ []
 
 -- what a list says of a number, and else what the rest says

@@ -21,6 +21,12 @@ fn put_other_meaning(out: &mut [u8], i: usize, code: u8) -> usize
         20 => put_text(out, i, b"the value does not fit the circuit's wires"),
         22 => put_text(out, i, b"the text departs from the form of a circuit"),
         23 => put_text(out, i, b"the text has more than 12 gates"),
+        26 => put_text(
+            out,
+            i,
+            b"the batch is not up to 64 whole records of 20 or 28 bytes",
+        ),
+        27 => put_text(out, i, b"the answers or the statuses have too few bytes"),
         _ => put_text(out, i, b"no rule has this number"),
     }
 }

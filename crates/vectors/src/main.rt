@@ -1,5 +1,6 @@
 // Runs the calls that stand in text files, one to a line, and writes a line for each: its answer, or a heading as it is. A line that is
 // no call gets `bad line` and its number, so that a slip in the data is seen.
+use batch::Batched;
 use libc::STDOUT_FILENO;
 use parity::TableParity;
 use record::Checked;
@@ -25,6 +26,7 @@ fn main() {
     run_file(b"search");
     run_file(b"lines");
     run_file(b"library");
+    run_file(b"batches");
 }
 
 fn say(text: &[u8]) {
@@ -109,11 +111,12 @@ fn is_name(letter: u8, name: &[u8]) -> bool {
         b'l' => same(name, b"line"),
         b'a' => same(name, b"among"),
         b'w' => same(name, b"with"),
+        b't' => same(name, b"together"),
         _ => false,
     }
 }
 
-// What stands after the first word: a byte for a run and a search, a record or a library for four calls, nothing for the others.
+// What stands after the first word: a byte for a run and a search, a record, a library or a length for five calls, nothing for the others.
 fn second_ok(letter: u8, rest: &[u8]) -> bool {
     match letter {
         b'f' => is_byte(rest),
@@ -123,15 +126,17 @@ fn second_ok(letter: u8, rest: &[u8]) -> bool {
         b'v' => is_word(rest),
         b'a' => is_word(rest),
         b'w' => is_word(rest),
+        b't' => is_word(rest),
         _ => rest.len() == 0,
     }
 }
 
-// What stands after the second word: with a library a space, and then a byte for a search, a record for verifying.
+// What stands after the second word: a space, and then a byte for a search with a library and for a batch, a record for verifying with one.
 fn third_ok(letter: u8, rest: &[u8]) -> bool {
     match letter {
         b'a' => is_byte(&rest[past(rest, 0)..]),
         b'w' => is_word(&rest[past(rest, 0)..]),
+        b't' => is_byte(&rest[past(rest, 0)..]),
         _ => rest.len() == 0,
     }
 }
@@ -220,6 +225,7 @@ fn dispatch(letter: u8, first: &[u8], second: &[u8], third: &[u8]) {
         b'l' => say_line(first),
         b'a' => say_search(first, second, true, logic::at(third, 0)),
         b'w' => say_measured(library::verify_with(first, second, third)),
+        b't' => say_batch(first, second, logic::at(third, 0)),
         _ => say(b"unknown"),
     }
 }
@@ -342,7 +348,8 @@ fn say_parity(answer: TableParity) {
 
 // Searches with an answer buffer of `room` bytes, each different, and writes the answer and the whole buffer.
 fn say_search(job: &[u8], library: &[u8], among: bool, room: u8) {
-    let mut buffer = numbered();
+    let mut buffer = io::buffer();
+    number(&mut buffer);
     search_into(job, library, among, &mut buffer, room as usize);
 }
 
@@ -367,15 +374,13 @@ fn search_one(job: &[u8], library: &[u8], among: bool, answer: &mut [u8]) -> Sea
     }
 }
 
-// A buffer whose byte i is 0xA0 + i, modulo 256.
-fn numbered() -> [u8; 256] {
-    let mut buffer = [0u8; 256];
-    let mut i: usize = 0;
-    while i < 256 {
-        buffer[i] = ((i + 160) % 256) as u8;
+// Byte i becomes 0xA0 + i, modulo 256.
+fn number(buffer: &mut [u8]) {
+    let mut i = 0;
+    while i < buffer.len() {
+        buffer[i] = ((i % 256 + 160) % 256) as u8;
         i += 1;
     }
-    buffer
 }
 
 fn say_searched(answer: Searched) {
@@ -390,6 +395,52 @@ fn say_found(size: usize, m: Measures) {
     io::print_decimal(STDOUT_FILENO, size as u64);
     say(b" ");
     say_measures(m);
+}
+
+// Searches for the jobs of a batch with numbered buffers, and writes the answer and both buffers whole. The length of the answers has two bytes.
+fn say_batch(jobs: &[u8], answers: &[u8], statuses: u8) {
+    let n = 256 * logic::wide(logic::at(answers, 0)) + logic::wide(logic::at(answers, 1));
+    let mut cells = io::buffer();
+    number(&mut cells);
+    batch_into(jobs, &mut cells, n, statuses as usize);
+}
+
+fn batch_into(jobs: &[u8], cells: &mut [u8], n: usize, m: usize) {
+    if n <= cells.len() {
+        batch_with(jobs, &mut cells[..n], m);
+    }
+}
+
+fn batch_with(jobs: &[u8], cells: &mut [u8], m: usize) {
+    let mut codes = io::buffer();
+    number(&mut codes);
+    batch_within(jobs, cells, &mut codes, m);
+}
+
+fn batch_within(jobs: &[u8], cells: &mut [u8], codes: &mut [u8], m: usize) {
+    if m <= codes.len() {
+        batch_whole(jobs, cells, &mut codes[..m]);
+    }
+}
+
+fn batch_whole(jobs: &[u8], cells: &mut [u8], codes: &mut [u8]) {
+    say_batched(batch::search_all(jobs, cells, codes));
+    say(b" ");
+    say_bytes(cells);
+    say(b" ");
+    say_bytes(codes);
+}
+
+fn say_batched(answer: Batched) {
+    match answer {
+        Batched::Refused(code) => say_refused(code),
+        Batched::Jobs(count) => say_jobs(count),
+    }
+}
+
+fn say_jobs(count: usize) {
+    say(b"jobs ");
+    io::print_decimal(STDOUT_FILENO, count as u64);
 }
 
 // Each byte in hexadecimal; `-` where there is none.

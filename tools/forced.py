@@ -18,7 +18,7 @@ ROOT = os.path.dirname(os.path.dirname(os.path.abspath(__file__)))
 CHANGES = [
     ("    if limit < 6 { limit } else { 6 }\n", "    if limit < 6 { 0 } else { 0 }\n"),
     ("        if most <= 10 { 4 } else { 5 }\n", "        if most <= 3 { LESS } else { RADIUS }\n"),
-    ("        if most <= 10 { 3 } else { 4 }\n", "        if most <= 3 { LESS } else { RADIUS }\n"),
+    ("        if most <= 8 { 3 } else { 4 }\n", "        if most <= 3 { LESS } else { RADIUS }\n"),
     ("held.found && 10 <= held.len", "held.found && 1 <= held.len"),
 ]
 

@@ -1,12 +1,13 @@
-// What gates still to come cost at least, and which costs a gate list can have.
+// What gates still to come cost at least, and which costs a gate list can have with how many gates.
 ghost use mathlib.Core.Path.{_≡_};
+ghost use mathlib.Core.Bool.{true, false};
 ghost use Prim.Native.Nat.{ℕ, _+_, _-_, _*_, _/_, _≤_, _<_, min};
 ghost use lib.Dec.{ltb};
 ghost use lib.ListN.{length, getD};
 ghost use Rattle.logic.specs.Rules.{pick};
 ghost use Rattle.budget.specs.Heavy.{heavy};
 ghost use Rattle.budget.specs.Afford.{reach};
-ghost use Rattle.budget.specs.Sums.{fewer, offer, spread, Marked};
+ghost use Rattle.budget.specs.Sums.{put, putFrom, Extends, Marked};
 
 fn lesser(a: usize, b: usize) -> usize
     ensures { λ r. ⌜ r ≡ min a b ⌝ }
@@ -93,52 +94,58 @@ pub fn reach(low: usize, extra: usize, needed: usize, spare: usize, remaining: u
     lesser(remaining, quotient(above(spare, needed * extra), low))
 }
 
-// The lesser of two marks, where 0 is none.
-fn fewer(old: u8, new: u8) -> u8
-    ensures { λ r. ⌜ r ≡ fewer old new ⌝ }
+// Marks the place `step` places further, where it is within the slice.
+fn put(i: usize, step: usize, sums: &mut [u8])
+    requires { ⌜ i ≤ length (now sums) ⌝ }
+    ensures { λ _. ⌜ now (sums .exit) ≡ put (i + step) (now (sums .entry)) ⌝ }
 {
-    if old == 0 {
-        return new;
-    }
-    if old < new { old } else { new }
-}
-
-// Offers a mark to one sum, where it is within the slice.
-fn mark_sum(s: usize, price: usize, new: u8, marks: &mut [u8])
-    requires { ⌜ s ≤ length (now marks) ⌝ }
-    ensures { λ _. ⌜ now (marks .exit) ≡ offer (s + price) new (now (marks .entry)) ⌝ }
-{
-    if price < marks.len() - s {
-        marks[s + price] = fewer(marks[s + price], new);
+    if step < sums.len() - i {
+        sums[i + step] = 1;
     }
 }
 
-// Offers a mark to the costs that one gate more makes of the cost `s`.
-fn mark_from(prices: &[u8], s: usize, new: u8, marks: &mut [u8])
-    requires { ⌜ s ≤ length (now marks) ⌝ }
-    ensures { λ _. ⌜ now (marks .exit) ≡ spread s new (now (prices .entry)) (now (marks .entry)) ⌝ }
+// How many places further one gate more of this price leads.
+fn stride(price: u8) -> usize
+    ensures { λ r. ⌜ r ≡ 13 * price + 1 ⌝ }
 {
-    let mut i = 0;
-    while i < prices.len() {
-        mark_sum(s, logic::wide(prices[i]), new, marks);
-        i += 1;
+    13 * logic::wide(price) + 1
+}
+
+// Marks the places that one gate more makes of place `i`.
+fn put_from(prices: &[u8], i: usize, sums: &mut [u8])
+    requires { ⌜ i ≤ length (now sums) ⌝ }
+    ensures { λ _. ⌜ now (sums .exit) ≡ putFrom i (now (prices .entry)) (now (sums .entry)) ⌝ }
+{
+    let mut k = 0;
+    while k < prices.len() {
+        put(i, stride(prices[k]), sums);
+        k += 1;
     }
 }
 
-// Marks every cost below the slice's length that a list of at most `limit` gates at these prices can have.
-pub fn mark(prices: &[u8], limit: usize, marks: &mut [u8])
+// Whether a place is marked and its count leaves a gate of the limit.
+fn extends(mark: u8, i: usize, limit: usize) -> bool
+    ensures { λ r. ⌜ (r ≡ true → Extends limit i mark) ⌝ }
+    ensures { λ r. ⌜ (r ≡ false → Extends limit i mark → ⊥) ⌝ }
+{
+    if mark == 0 {
+        return false;
+    }
+    i % 13 < limit
+}
+
+// Marks the costs and counts of all lists of at most `limit` gates at these prices, as far as the slice goes.
+pub fn mark(prices: &[u8], limit: usize, sums: &mut [u8])
     requires { ⌜ limit ≤ 12 ⌝ }
-    ensures { λ _. ⌜ length (now (marks .exit)) ≡ length (now (marks .entry)) ⌝ }
-    ensures { λ _. ⌜ Marked (now (prices .entry)) limit (now (marks .exit)) ⌝ }
+    ensures { λ _. ⌜ length (now (sums .exit)) ≡ length (now (sums .entry)) ⌝ }
+    ensures { λ _. ⌜ Marked (now (prices .entry)) limit (now (sums .exit)) ⌝ }
 {
-    mark_sum(0, 0, 1, marks);
-    let mut s = 0;
-    while s < marks.len() {
-        let found = marks[s];
-        // a mark is 1 more than its gates, so one up to the limit leaves a gate
-        if logic::both(0 < found, logic::wide(found) <= limit) {
-            mark_from(prices, s, found + 1, marks);
+    put(0, 0, sums);
+    let mut place = 0;
+    while place < sums.len() {
+        if extends(sums[place], place, limit) {
+            put_from(prices, place, sums);
         }
-        s += 1;
+        place += 1;
     }
 }

@@ -506,6 +506,9 @@ fn open_pairs(bits: &[u64], size: u32, shares: [u32; 5]) -> usize
 pub fn open_wires(bits: &[u64], reach: Reach, columns: [u16; 5], left: usize) -> usize
     ensures { λ r. ⌜ ((w : ℕ) → w < 5 → bitOf w r ≡ bit (openOn (now (bits .entry)) reach (sharesOf reach columns) left w)) ⌝ }
 {
+    if bits.len() == 0 {
+        return 31;
+    }
     let size = reach.size;
     let radius = reach.radius;
     if left <= radius {

@@ -1,3 +1,4 @@
 pub mod Nodes
 pub mod Forms
 pub mod Reaches
+pub mod Exactly

@@ -13,7 +13,7 @@ use Rattle.circuit.specs.Inner.{columnsAfter}
 use Rattle.table.specs.Layouts.{Width, layoutsFor}
 use Rattle.columns.specs.Wanted.{startColumns, reached}
 use Rattle.choice.specs.Choices.{Choice}
-use Rattle.problem.specs.Problems.{Problem}
+use Rattle.problem.specs.Problems.{Problem, choiceOf, within}
 use Rattle.pruned.specs.Pruned.{triedBy}
 use Rattle.normal.specs.Forms.{skipped}
 use Rattle.masks.specs.Words.{masksAfter}
@@ -101,6 +101,14 @@ pub record At (P : Problem) (s : Node) : Type 0 where
   pub paid : s .cost ≡ cost (P .price) (listOf s)
   pub needing : Needs P (listOf s) (s .needs)
   pub marking : s .marks ≡ masksAfter (listOf s)
+
+-- the sums, where there are any, mark the cost and count of every list of at most k gates, and each good way to go on from l by at most k
+-- gates has exactly k and comes to exactly the limit
+pub record Exact (P : Problem) (limit : ℕ) (l : List ℕ) (k : ℕ) (sums : List ℕ) : Type 0 where
+  pub marked : (e : List ℕ) → Among (P .gates) e → length e ≤ k → 13 * cost (P .price) e + length e < length sums
+      → 0 < getD sums (13 * cost (P .price) e + length e) 0
+  pub only : 0 < length sums → (e : List ℕ) (p : ℕ) → Among (P .gates) e → List·Memᴰ p (P .layouts) → length e ≤ k
+      → within P limit (choiceOf P (l ++ e) p) ≡ true → (length e ≡ k) × (cost (P .price) (l ++ e) ≡ limit)
 
 -- a gate of the problem with its own price and duration
 pub record Lists (P : Problem) (e : Entry) : Type 0 where

@@ -8,24 +8,28 @@ use plan::Plan;
 ghost use mathlib.Core.Path.{_≡_};
 ghost use mathlib.Core.Bool.{true, false};
 ghost use mathlib.Core.List.{List, [], _∷_, _++_, List·Memᴰ};
+ghost use mathlib.Core.Option.{Option};
+ghost use mathlib.Core.Logic.{_⊎_};
 ghost use Prim.Native.Nat.{ℕ, _+_, _-_, _≤_, _<_};
 ghost use lib.ListN.{length};
 ghost use Rattle.logic.specs.Lists.{Among};
-ghost use Rattle.gate.specs.Gates.{targetOf};
+ghost use Rattle.logic.specs.Bit.{bitOf};
+ghost use Rattle.gate.specs.Gates.{targetOf, lawful};
 ghost use Rattle.circuit.specs.Measure.{cost, depth};
 ghost use Rattle.circuit.specs.Inner.{columnsAfter};
 ghost use Rattle.table.specs.Layouts.{Width};
+ghost use Rattle.columns.specs.declared.Wanted.{Wanted};
 ghost use Rattle.columns.specs.Wanted.{startColumns};
 ghost use Rattle.choice.specs.Choices.{Choice, attempt, improve};
 ghost use Rattle.choice.specs.Inner.{view};
 ghost use Rattle.problem.specs.Problems.{Problem, choiceOf, here, within};
 ghost use Rattle.problem.specs.Inner.{lookedUnder, Enough};
-ghost use Rattle.outputs.specs.Owed.{lost};
+ghost use Rattle.outputs.specs.Owed.{lost, worth, Controls};
 ghost use Rattle.products.specs.Products.{tableOf};
 ghost use Rattle.plan.specs.Plan.{planOf};
 ghost use Rattle.filters.specs.Reach.{Sieve};
 ghost use Rattle.node.specs.declared.Task.{Task};
-ghost use Rattle.node.specs.States.{listOf, Small, Fair, Needs, Asks, Bounded, At, Lists, Follows, needless, Passed};
+ghost use Rattle.node.specs.States.{listOf, Small, Fair, Needs, Asks, Bounded, At, Exact, Lists, Follows, needless, Passed};
 
 // What a search asks for; gates have at most `controls` controls.
 pub struct Task {
@@ -174,6 +178,20 @@ fn dear(limit: usize, paid: usize, len: usize, best: Best) -> bool
     held < paid
 }
 
+// Whether no list of exactly `count` gates costs exactly what is left of the limit; not so where the sums do not go that far.
+pub fn impossible(sums: &[u8], limit: usize, paid: u16, count: usize) -> bool
+    requires { ⌜ count ≤ 12 ⌝ }
+    ensures { λ r. ⌜ (r ≡ true → (P : Problem) (l : List ℕ) → paid ≡ cost (P .price) l → Exact P limit l count (now (sums .entry)) → (x : Option Choice) → lookedUnder P limit l count x ≡ x) ⌝ }
+{
+    let cost = paid as usize;
+    // twelve gates cost at most 3060
+    if logic::either(limit < cost, cost + 3060 < limit) {
+        return false;
+    }
+    let i = 13 * (limit - cost) + count;
+    if i < sums.len() { sums[i] == 0 } else { false }
+}
+
 // How many heavy gates each way to finish has at least, after gate `g` led to these columns; before it there were `needs`.
 fn still_needed(task: Task, least: Least, columns: [u16; 5], g: u8, needs: usize) -> usize
     requires { ⌜ Width (task .outputs) × (needs ≤ 12) ⌝ }
@@ -239,10 +257,28 @@ fn in_time(task: Task, s: Node, entry: Entry) -> bool
     circuit::latest(later) as usize <= task.depth_limit
 }
 
+// Whether a gate is on an open wire and worth a try: the first tests, since most gates go by them.
+pub fn eligible(
+    table: &[u16],
+    plan: Plan,
+    n: usize,
+    free: usize,
+    wires: usize,
+    g: u8,
+    most: usize,
+) -> bool
+    requires { ⌜ (length (now table) ≡ 40) × ((targetOf g < 5) × Width n) ⌝ }
+    ensures { λ r. ⌜ (r ≡ false → (k : ℕ) (t : Wanted) (cs : List ℕ) → Controls k → lawful k 5 g ≡ true → length cs ≡ 5 → now (table .entry) ≡ tableOf k t cs → plan ≡ planOf t cs n free → (bitOf (targetOf g) wires ≡ 0) ⊎ (worth t cs n free g most ≡ false)) ⌝ }
+{
+    if !filters::open(wires, g) {
+        return false;
+    }
+    plan::worth(table, plan, n, free, g, most)
+}
+
 // Whether one gate of a node, where at most `most` gates may still come, can lead to something better than what is held.
 pub fn promising(
     table: &[u16],
-    plan: Plan,
     task: Task,
     s: Node,
     entry: Entry,
@@ -254,13 +290,10 @@ pub fn promising(
     requires { ⌜ (length (now table) ≡ 40) × (targetOf (entry .gate) < 5) ⌝ }
     requires { ⌜ Fair task × ((s .len < 12) × (1 ≤ most)) ⌝ }
     requires { ⌜ Small s ⌝ }
-    ensures { λ r. ⌜ ((P : Problem) (remaining : ℕ) → Asks P task → At P s → Lists P entry → now (table .entry) ≡ tableOf (task .controls) (task .wanted) (s .columns) → plan ≡ planOf (task .wanted) (s .columns) (task .outputs) (task .free) → 1 ≤ remaining → Enough P (task .«cost_limit») (listOf s) remaining most (view best) → Sieve (now (bits .entry)) reach (P .gates) (task .controls) (task .wanted) (task .outputs) (task .free) → r ≡ false → Passed P (task .«cost_limit») s (entry .gate) remaining (view best)) ⌝ }
+    ensures { λ r. ⌜ ((P : Problem) (remaining : ℕ) → Asks P task → At P s → Lists P entry → now (table .entry) ≡ tableOf (task .controls) (task .wanted) (s .columns) → 1 ≤ remaining → Enough P (task .«cost_limit») (listOf s) remaining most (view best) → Sieve (now (bits .entry)) reach (P .gates) (task .controls) (task .wanted) (task .outputs) (task .free) → r ≡ false → Passed P (task .«cost_limit») s (entry .gate) remaining (view best)) ⌝ }
     ensures { λ r. ⌜ ((P : Problem) → Asks P task → At P s → Lists P entry → now (table .entry) ≡ tableOf (task .controls) (task .wanted) (s .columns) → r ≡ true → needless (listOf s) (entry .gate) ≡ false) ⌝ }
 {
     if needless(table, s, entry.gate) {
-        return false;
-    }
-    if !plan::worth(table, plan, task.outputs, task.free, entry.gate, most) {
         return false;
     }
     let cost = s.cost as usize + entry.price as usize;

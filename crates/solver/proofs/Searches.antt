@@ -1,10 +1,8 @@
--- One search after the other: what a cost buys, which costs are no sums of prices, and the same task with another limit.
+-- One search after the other: what a cost buys, when only exact sums can be good, and the same task with another limit.
 use mathlib.Core.Path.{_≡_, sym, _∙_, subst}
-use mathlib.Core.Logic.{⊎-elim}
 use mathlib.Core.Bool.{true}
 use mathlib.Core.List.{List, [], List·Memᴰ, Memᴰ·cast}
 use Prim.Native.Nat.{ℕ, _+_, _≤_, _<_}
-use native.Mathlib.Nat.{eq-or-lt-of-le}
 use native.Mathlib.Omega.{arith}
 use lib.ListN.{length, getD}
 use Rattle.logic.specs.Rules.{pick}
@@ -15,7 +13,7 @@ use Rattle.choice.specs.Inner.{view}
 use Rattle.problem.specs.Problems.{Problem, choiceOf, choices, good}
 use Rattle.problem.specs.Inner.{Past, Dearer, Shortest}
 use Rattle.problem.proofs.Limits.{past-below, found-cost}
-use Rattle.problem.proofs.Listed.{listed, gates-are, cost-is, within-parts}
+use Rattle.problem.proofs.Listed.{listed, unlisted, gates-are, cost-is, within-parts, within-joined}
 use Rattle.budget.specs.Afford.{CostsAtLeast, reach}
 use Rattle.budget.specs.Heavy.{heavy}
 use Rattle.budget.specs.Sums.{Marked}
@@ -23,8 +21,8 @@ use Rattle.budget.proofs.Afford.{reach-most}
 use Rattle.budget.proofs.Sums.{sums-marked}
 use Rattle.node.specs.declared.Task.{Task}
 use Rattle.node.specs.declared.Least.{Least}
-use Rattle.node.specs.States.{Fair, Posed, Limited, Bounded}
-use Rattle.solver.specs.States.{Priced, limitedTo}
+use Rattle.node.specs.States.{Fair, Posed, Limited, Bounded, Exact}
+use Rattle.solver.specs.States.{Counted, Priced, limitedTo}
 
 -- the gates that a cost buys
 pub bought : (P : Problem) (least : Least) → Bounded P least → (limit : ℕ) (a : Choice) → List·Memᴰ a (choices P) → good P a ≡ true → a .cost ≤ limit
@@ -37,6 +35,27 @@ bought P least bounded limit a m h c =
     rw (gates-are P (P .mostGates) a i)
     (reach-most (least .low) (least .extra) (P .gates) (P .price) (bounded .costs) (i .more) (i .among) (least .needs) limit few
     (rw (cost-is P (P .mostGates) a i) at c) (P .mostGates) (i .short))
+
+-- where no sums are given nothing is known of them
+pub no-sums : (P : Problem) (limit : ℕ) → Counted P limit []
+no-sums P limit = record { marked = λ e among short h. absurd (omega arith); dear = λ some. absurd (omega arith) }
+
+-- where all smaller costs, and all smaller counts at this cost, have nothing good, only lists of exactly this cost and count can be good
+pub exact-at : (P : Problem) (limit g : ℕ) (sums : List ℕ) → limit ≤ P .mostCost → g ≤ P .mostGates → Past P limit g → Counted P limit sums
+    → Exact P limit [] g sums
+unfolding choiceOf
+exact-at P limit g sums hl hg past counted = record {
+  marked = λ e among short h. counted .marked e among (omega arith) h;
+  only = λ some e p among laid short h.
+      let a = choiceOf P e p in
+      let w = within-parts P limit a h in
+      let m = unlisted P [] (P .mostGates) e p among (omega arith) laid in
+      let good = within-joined P (P .mostCost) a (w .0) (omega arith) (w .1 .1) in
+      let k = past .gates-least a m good (w .1 .0) in
+      let c = counted .dear some .cost-least a m good in
+      let q = w .1 .0 in
+      (omega arith, omega arith);
+}
 
 -- another limit on cost leaves a task's outputs and controls
 pub fair-limited : (task : Task) (c : ℕ) → Fair task → Fair (limitedTo task c)
@@ -58,20 +77,10 @@ module _ (P : Problem) (task : Task) (gates prices durations : List ℕ) (posed 
       let k = h (q .0) (rw long (q .1 .0)) in
       rw (posed .priced (q .0) (q .1 .0), q .1 .1) at k
 
-  -- a cost that is no sum of prices
-  pub unmarked : length prices ≡ length gates → (marks : List ℕ) (c : ℕ) → Marked prices (P .mostGates) marks → c < length marks → getD marks c 0 ≡ 0
-      → Dearer P c → Dearer P (c + 1)
-  unmarked long marks c marked short un dear = record {
-    cost-least = λ a m h.
-        let i = listed P [] (P .mostGates) a m in
-        let e = cost-is P (P .mostGates) a i in
-        ⊎-elim
-        (λ (q : c ≡ a .cost).
-        let k = rw (← e, ← q) at (sums-marked (P .price) (P .gates) prices marks (P .mostGates) (priced-in long) marked (i .more) (i .among) (i .short) (omega arith)) in
-        absurd (omega arith))
-        (λ (q : c < a .cost). omega arith)
-        (eq-or-lt-of-le (dear .cost-least a m h));
-  }
+  -- what the sums and the costs tried so far tell of the next cost
+  pub counted-at : length prices ≡ length gates → (sums : List ℕ) (c : ℕ) → P .mostGates ≤ 12 → Marked prices (P .mostGates) sums → Dearer P c → Counted P c sums
+  counted-at long sums c few marked dear =
+      record { marked = sums-marked (P .price) (P .gates) prices sums (P .mostGates) (priced-in long) few marked; dear = λ some. dear }
 
   -- another limit on cost changes nothing that is asked
   pub posed-limited : (c : ℕ) → Posed P (limitedTo task c) gates prices durations
@@ -85,14 +94,14 @@ module _ (P : Problem) (task : Task) (gates prices durations : List ℕ) (posed 
 
   -- what a search at a cost below that of what is held comes to
   pub priced-below : (least : Least) → Bounded P least → Limited P task → (held : Best) → held .found ≡ true → Shortest P (P .mostCost) (view held) (held .len)
-      → (c : ℕ) → c < held .cost → (t : Task) → t ≡ limitedTo task c → (r : Best)
+      → (c : ℕ) → c < held .cost → (sums : List ℕ) → Counted P c sums → (t : Task) → t ≡ limitedTo task c → (r : Best)
       → (Posed P t gates prices durations → Bounded P least → t .«cost_limit» ≤ P .mostCost → t .«gate_limit» ≡ P .mostGates → Past P (t .«cost_limit») (held .len)
-      → Priced P (t .«cost_limit») r)
+      → Counted P (t .«cost_limit») sums → Priced P (t .«cost_limit») r)
       → Priced P c r
   unfolding limitedTo
-  priced-below least bounded limited held f first c k t e r searched =
+  priced-below least bounded limited held f first c k sums counted t e r searched =
       let below = found-cost P (P .mostCost) held (omega arith) f first in
       subst
       (λ (t : Task). (Posed P t gates prices durations → Bounded P least → t .«cost_limit» ≤ P .mostCost → t .«gate_limit» ≡ P .mostGates → Past P (t .«cost_limit») (held .len)
-      → Priced P (t .«cost_limit») r)) e searched (posed-limited c) bounded (omega arith) (limited .gates-most)
-      (past-below P (P .mostCost) c (held .len) (omega arith) (first .past))
+      → Counted P (t .«cost_limit») sums → Priced P (t .«cost_limit») r)) e searched (posed-limited c) bounded (omega arith) (limited .gates-most)
+      (past-below P (P .mostCost) c (held .len) (omega arith) (first .past)) counted

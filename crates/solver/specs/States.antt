@@ -1,7 +1,10 @@
 -- What one search leaves to the next, of gates and of costs.
 use mathlib.Core.Path.{_≡_}
 use mathlib.Core.Bool.{true, false}
-use Prim.Native.Nat.{ℕ, _+_, _-_}
+use mathlib.Core.List.{List}
+use Prim.Native.Nat.{ℕ, _+_, _-_, _*_, _≤_, _<_}
+use lib.ListN.{length, getD}
+use Rattle.logic.specs.Lists.{Among}
 use Rattle.circuit.specs.Measure.{cost}
 use Rattle.problem.specs.Problems.{Problem, firstGood}
 use Rattle.choice.specs.declared.Best.{Best}
@@ -9,6 +12,12 @@ use Rattle.choice.specs.Inner.{view}
 use Rattle.problem.specs.Inner.{Past, Dearer, Shortest}
 use Rattle.node.specs.declared.Task.{Task}
 use Rattle.solver.specs.declared.Outcome.{Outcome}
+
+-- the sums, where there are any, mark the cost and count of every list that the problem allows, and nothing good costs less than the limit
+pub record Counted (P : Problem) (limit : ℕ) (sums : List ℕ) : Type 0 where
+  pub marked : (e : List ℕ) → Among (P .gates) e → length e ≤ P .mostGates → 13 * cost (P .price) e + length e < length sums
+      → 0 < getD sums (13 * cost (P .price) e + length e) 0
+  pub dear : 0 < length sums → Dearer P limit
 
 -- what a search for the fewest gates, up to `most` of them, comes to
 pub record Deepened (P : Problem) (limit most : ℕ) (r : Best) : Type 0 where

@@ -18,9 +18,9 @@ ghost use Rattle.budget.specs.Sums.{Marked};
 ghost use Rattle.filters.specs.Reach.{Sieve};
 ghost use Rattle.node.specs.declared.Task.{Task};
 ghost use Rattle.node.specs.States.{Slices, Supplied, Fair, Ready, Posed, Limited, Bounded};
-ghost use Rattle.solver.specs.States.{Deepened, Priced, Settled, limitedTo};
+ghost use Rattle.solver.specs.States.{Counted, Deepened, Priced, Settled, limitedTo};
 
-// Deepening on gates: one gate more until a search finds something.
+// Deepening on gates: one gate more until a search finds something. Sums are given where nothing good costs less than the task's limit.
 fn fewest(
     gates: &[u8],
     prices: &[u8],
@@ -31,21 +31,22 @@ fn fewest(
     most: usize,
     bits: &[u64],
     reach: Reach,
+    sums: &[u8],
 ) -> Best
     requires { ⌜ Supplied (now gates) (now prices) (now durations) task (now bits) reach ⌝ }
     requires { ⌜ Ready task least × ((from ≤ most) × (most ≤ 12)) ⌝ }
-    ensures { λ r. ⌜ ((P : Problem) → Posed P task (now (gates .entry)) (now (prices .entry)) (now (durations .entry)) → Bounded P least → task .«cost_limit» ≤ P .mostCost → most ≤ P .mostGates → Past P (task .«cost_limit») from → Deepened P (task .«cost_limit») most r) ⌝ }
+    ensures { λ r. ⌜ ((P : Problem) → Posed P task (now (gates .entry)) (now (prices .entry)) (now (durations .entry)) → Bounded P least → task .«cost_limit» ≤ P .mostCost → most ≤ P .mostGates → Past P (task .«cost_limit») from → Counted P (task .«cost_limit») (now (sums .entry)) → Deepened P (task .«cost_limit») most r) ⌝ }
     ensures { λ r. ⌜ r .len ≤ 12 ⌝ }
 {
     let mut g = from;
     while g < most {
-        let b = walk::run(gates, prices, durations, task, least, g, bits, reach);
+        let b = walk::run(gates, prices, durations, task, least, g, bits, reach, sums);
         if b.found {
             return b;
         }
         g += 1;
     }
-    walk::run(gates, prices, durations, task, least, most, bits, reach)
+    walk::run(gates, prices, durations, task, least, g, bits, reach, sums)
 }
 
 // The search at one cost, the task's limit: the counts of gates from `from` up to what the cost buys.
@@ -58,10 +59,11 @@ fn at_cost(
     from: usize,
     bits: &[u64],
     reach: Reach,
+    sums: &[u8],
 ) -> Best
     requires { ⌜ Supplied (now gates) (now prices) (now durations) task (now bits) reach ⌝ }
     requires { ⌜ Ready task least × (task .«gate_limit» ≤ 12) ⌝ }
-    ensures { λ r. ⌜ ((P : Problem) → Posed P task (now (gates .entry)) (now (prices .entry)) (now (durations .entry)) → Bounded P least → task .«cost_limit» ≤ P .mostCost → task .«gate_limit» ≡ P .mostGates → Past P (task .«cost_limit») from → Priced P (task .«cost_limit») r) ⌝ }
+    ensures { λ r. ⌜ ((P : Problem) → Posed P task (now (gates .entry)) (now (prices .entry)) (now (durations .entry)) → Bounded P least → task .«cost_limit» ≤ P .mostCost → task .«gate_limit» ≡ P .mostGates → Past P (task .«cost_limit») from → Counted P (task .«cost_limit») (now (sums .entry)) → Priced P (task .«cost_limit») r) ⌝ }
     ensures { λ r. ⌜ r .len ≤ 12 ⌝ }
 {
     let most = budget::reach(
@@ -84,14 +86,8 @@ fn at_cost(
         most,
         bits,
         reach,
+        sums,
     )
-}
-
-// Whether some list may cost `c`; costs past the end of the marks are not ruled out.
-fn achievable(marks: &[u8], c: usize) -> bool
-    ensures { λ r. ⌜ (r ≡ false → (c < length (now (marks .entry))) × (getD (now (marks .entry)) c 0 ≡ 0)) ⌝ }
-{
-    if c < marks.len() { marks[c] != 0 } else { true }
 }
 
 fn limited_to(task: Task, limit: usize) -> Task
@@ -109,41 +105,40 @@ fn limited_to(task: Task, limit: usize) -> Task
     }
 }
 
-// Deepening on cost: the sums of prices below the cost of what is held, rising.
+// Deepening on cost: the costs below that of what is held, rising. One that is no sum of prices ends at the root of each walk.
 fn cheaper(
     gates: &[u8],
     prices: &[u8],
     durations: &[u8],
     task: Task,
     least: Least,
-    marks: &[u8],
+    sums: &[u8],
     held: Best,
     bits: &[u64],
     reach: Reach,
 ) -> Best
     requires { ⌜ Supplied (now gates) (now prices) (now durations) task (now bits) reach ⌝ }
     requires { ⌜ Ready task least × (task .«gate_limit» ≤ 12) ⌝ }
-    requires { ⌜ Marked (now prices) (task .«gate_limit») (now marks) ⌝ }
+    requires { ⌜ Marked (now prices) (task .«gate_limit») (now sums) ⌝ }
     requires { ⌜ (held .found ≡ true) × (held .len ≤ 12) ⌝ }
     ensures { λ r. ⌜ ((P : Problem) → Posed P task (now (gates .entry)) (now (prices .entry)) (now (durations .entry)) → Bounded P least → Limited P task → Shortest P (P .mostCost) (view held) (held .len) → view r ≡ firstGood P) ⌝ }
     ensures { λ r. ⌜ r .len ≤ 12 ⌝ }
 {
     let mut c = 0;
     while c < held.cost as usize {
-        if achievable(marks, c) {
-            let b = at_cost(
-                gates,
-                prices,
-                durations,
-                limited_to(task, c),
-                least,
-                held.len,
-                bits,
-                reach,
-            );
-            if b.found {
-                return b;
-            }
+        let b = at_cost(
+            gates,
+            prices,
+            durations,
+            limited_to(task, c),
+            least,
+            held.len,
+            bits,
+            reach,
+            sums,
+        );
+        if b.found {
+            return b;
         }
         c += 1;
     }
@@ -171,6 +166,78 @@ pub struct Outcome {
     pub best: Best,
 }
 
+// The first of the lists that cost less than what is held, or what is held, by the sums as far as there is room for them.
+fn bid_with(
+    gates: &[u8],
+    prices: &[u8],
+    durations: &[u8],
+    task: Task,
+    least: Least,
+    held: Best,
+    bits: &[u64],
+    reach: Reach,
+    sums: &mut [u8],
+) -> Best
+    requires { ⌜ Supplied (now gates) (now prices) (now durations) task (now bits) reach ⌝ }
+    requires { ⌜ Ready task least × (task .«gate_limit» ≤ 12) ⌝ }
+    requires { ⌜ (held .found ≡ true) × (held .len ≤ 12) ⌝ }
+    ensures { λ r. ⌜ ((P : Problem) → Posed P task (now (gates .entry)) (now (prices .entry)) (now (durations .entry)) → Bounded P least → Limited P task → Shortest P (P .mostCost) (view held) (held .len) → view r ≡ firstGood P) ⌝ }
+    ensures { λ r. ⌜ r .len ≤ 12 ⌝ }
+{
+    budget::mark(prices, task.gate_limit, sums);
+    cheaper(
+        gates,
+        prices,
+        durations,
+        task,
+        least,
+        sums,
+        held,
+        bits,
+        reach,
+    )
+}
+
+// How much room the sums below a cost take, of what there is.
+fn room_for(cost: u16, most: usize) -> usize
+    ensures { λ r. ⌜ r ≤ most ⌝ }
+{
+    let room = 13 * cost as usize;
+    if room < most { room } else { most }
+}
+
+// The same, with no more sums than those below the cost of what is held.
+fn underbid(
+    gates: &[u8],
+    prices: &[u8],
+    durations: &[u8],
+    task: Task,
+    least: Least,
+    held: Best,
+    bits: &[u64],
+    reach: Reach,
+    sums: &mut [u8],
+) -> Best
+    requires { ⌜ Supplied (now gates) (now prices) (now durations) task (now bits) reach ⌝ }
+    requires { ⌜ Ready task least × (task .«gate_limit» ≤ 12) ⌝ }
+    requires { ⌜ (held .found ≡ true) × (held .len ≤ 12) ⌝ }
+    ensures { λ r. ⌜ ((P : Problem) → Posed P task (now (gates .entry)) (now (prices .entry)) (now (durations .entry)) → Bounded P least → Limited P task → Shortest P (P .mostCost) (view held) (held .len) → view r ≡ firstGood P) ⌝ }
+    ensures { λ r. ⌜ r .len ≤ 12 ⌝ }
+{
+    let room = room_for(held.cost, sums.len());
+    bid_with(
+        gates,
+        prices,
+        durations,
+        task,
+        least,
+        held,
+        bits,
+        reach,
+        &mut sums[..room],
+    )
+}
+
 // What is held, or the first of the lists that cost less; nothing is done where nothing is held.
 fn settle(
     gates: &[u8],
@@ -194,18 +261,18 @@ fn settle(
             best: held,
         };
     }
-    let mut marks = [0u8; 3061];
-    budget::mark(prices, task.gate_limit, &mut marks);
-    let best = cheaper(
+    // a place for each cost up to 3060 with each count of gates up to 12
+    let mut sums = [0u8; 39793];
+    let best = underbid(
         gates,
         prices,
         durations,
         task,
         least,
-        &marks,
         held,
         bits,
         reach,
+        &mut sums,
     );
     Outcome { done: true, best }
 }
@@ -232,6 +299,7 @@ fn go_on(
     if held.found {
         return held;
     }
+    let none = [0u8; 0];
     fewest(
         gates,
         prices,
@@ -242,6 +310,7 @@ fn go_on(
         most,
         bits,
         reach,
+        &none,
     )
 }
 
@@ -345,7 +414,7 @@ fn radius_for(count: usize, most: usize) -> usize {
     if count <= 32 {
         if most <= 10 { 4 } else { 5 }
     } else {
-        if most <= 10 { 3 } else { 4 }
+        if most <= 8 { 3 } else { 4 }
     }
 }
 
@@ -360,7 +429,18 @@ fn size_for(count: usize, radius: usize) -> u32 {
     50331648
 }
 
-// Two filters, one after the other: the large one is filled only where lists of more than ten gates have to be looked at.
+// After how many gates, at least `from`, the wider filter takes the place of the first.
+fn turn_for(count: usize, from: usize) -> usize
+    requires { ⌜ from ≤ 10 ⌝ }
+    ensures { λ r. ⌜ (from ≤ r) × (r ≤ 10) ⌝ }
+{
+    if count <= 32 {
+        return 10;
+    }
+    if from <= 8 { 8 } else { from }
+}
+
+// Two filters, one after the other: the wider one is filled only where lists of more gates have to be looked at.
 fn stages(
     gates: &[u8],
     prices: &[u8],
@@ -378,7 +458,8 @@ fn stages(
     ensures { λ r. ⌜ r .best .len ≤ 12 ⌝ }
 {
     let limit = task.gate_limit;
-    if limit <= 10 {
+    let turn = turn_for(gates.len(), from);
+    if limit <= turn {
         return stage(
             gates,
             prices,
@@ -391,7 +472,17 @@ fn stages(
             bits,
         );
     }
-    let first = stage(gates, prices, durations, task, least, held, from, 10, bits);
+    let first = stage(
+        gates,
+        prices,
+        durations,
+        task,
+        least,
+        held,
+        from,
+        turn,
+        bits,
+    );
     if first.done {
         return first;
     }
@@ -402,7 +493,7 @@ fn stages(
         task,
         least,
         choice::nothing(),
-        11,
+        turn + 1,
         limit,
         bits,
     )
@@ -478,7 +569,19 @@ pub fn solve(gates: &[u8], prices: &[u8], durations: &[u8], task: Task) -> Best
     let none = [0u64; 0];
     let reach = no_filter();
     let most = early(limit);
-    let held = fewest(gates, prices, durations, task, least, 0, most, &none, reach);
+    let no_sums = [0u8; 0];
+    let held = fewest(
+        gates,
+        prices,
+        durations,
+        task,
+        least,
+        0,
+        most,
+        &none,
+        reach,
+        &no_sums,
+    );
     if limit <= most {
         return ended(settle(gates, prices, durations, task, least, held, &none, reach));
     }

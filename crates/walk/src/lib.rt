@@ -16,7 +16,7 @@ ghost use Rattle.problem.specs.Inner.{lookedUnder};
 ghost use Rattle.pruned.specs.Pruned.{triedUnder};
 ghost use Rattle.outputs.specs.Owed.{lost};
 ghost use Rattle.node.specs.declared.Task.{Task};
-ghost use Rattle.node.specs.States.{listOf, Supplied, Small, Fair, Ready, Needs, Posed, Bounded, At, needless};
+ghost use Rattle.node.specs.States.{listOf, Supplied, Small, Fair, Ready, Needs, Posed, Bounded, At, Exact, needless};
 
 // What is held once every list that begins with the node's and goes on by at most `remaining` gates, none of them needless, was looked at.
 fn dfs(
@@ -30,14 +30,18 @@ fn dfs(
     best: Best,
     bits: &[u64],
     reach: Reach,
+    sums: &[u8],
 ) -> Best
     requires { ⌜ Supplied (now gates) (now prices) (now durations) task (now bits) reach ⌝ }
     requires { ⌜ Fair task × (least .extra ≤ 255) ⌝ }
     requires { ⌜ (s .len + remaining ≤ 12) × (best .len ≤ 12) ⌝ }
     requires { ⌜ Small s ⌝ }
-    ensures { λ r. ⌜ ((P : Problem) → Posed P task (now (gates .entry)) (now (prices .entry)) (now (durations .entry)) → Bounded P least → At P s → view r ≡ triedUnder needless P (task .«cost_limit») (listOf s) remaining (view best)) ⌝ }
+    ensures { λ r. ⌜ ((P : Problem) → Posed P task (now (gates .entry)) (now (prices .entry)) (now (durations .entry)) → Bounded P least → At P s → Exact P (task .«cost_limit») (listOf s) remaining (now (sums .entry)) → view r ≡ triedUnder needless P (task .«cost_limit») (listOf s) remaining (view best)) ⌝ }
     ensures { λ r. ⌜ r .len ≤ 12 ⌝ }
 {
+    if node::impossible(sums, task.cost_limit, s.cost, remaining) {
+        return best;
+    }
     let most = node::affordable(task, least, s, remaining, best);
     let wanted = task.wanted;
     let columns = s.columns;
@@ -54,13 +58,13 @@ fn dfs(
     let mut i = 0;
     while i < gates.len() {
         let g = gates[i];
-        if filters::open(wires, g) {
+        if node::eligible(&table, plan, task.outputs, task.free, wires, g, most) {
             let entry = Entry {
                 gate: g,
                 price: prices[i],
                 duration: durations[i],
             };
-            if node::promising(&table, plan, task, s, entry, most, b, bits, reach) {
+            if node::promising(&table, task, s, entry, most, b, bits, reach) {
                 let node = node::advance(&table, task, least, s, entry);
                 let found = dfs(
                     gates,
@@ -73,6 +77,7 @@ fn dfs(
                     b,
                     bits,
                     reach,
+                    sums,
                 );
                 b = found;
             }
@@ -99,7 +104,8 @@ fn root(needs: usize) -> Node
     }
 }
 
-// One search: the first of the lists that cost at most the task's limit and have at most `most` gates.
+// One search: the first of the lists that cost at most the task's limit and have at most `most` gates. Sums are given where only lists of
+// exactly so many gates and so much cost can be good.
 pub fn run(
     gates: &[u8],
     prices: &[u8],
@@ -109,10 +115,11 @@ pub fn run(
     most: usize,
     bits: &[u64],
     reach: Reach,
+    sums: &[u8],
 ) -> Best
     requires { ⌜ Supplied (now gates) (now prices) (now durations) task (now bits) reach ⌝ }
     requires { ⌜ Ready task least × (most ≤ 12) ⌝ }
-    ensures { λ r. ⌜ ((P : Problem) → Posed P task (now (gates .entry)) (now (prices .entry)) (now (durations .entry)) → Bounded P least → view r ≡ lookedUnder P (task .«cost_limit») [] most none) ⌝ }
+    ensures { λ r. ⌜ ((P : Problem) → Posed P task (now (gates .entry)) (now (prices .entry)) (now (durations .entry)) → Bounded P least → Exact P (task .«cost_limit») [] most (now (sums .entry)) → view r ≡ lookedUnder P (task .«cost_limit») [] most none) ⌝ }
     ensures { λ r. ⌜ r .len ≤ 12 ⌝ }
 {
     dfs(
@@ -126,5 +133,6 @@ pub fn run(
         choice::nothing(),
         bits,
         reach,
+        sums,
     )
 }

@@ -1,5 +1,5 @@
--- A gate is passed over since it is needless, by the outputs that could not be met in time, by its cost, by the filter, or by its depth: in each
--- case what is held stays.
+-- A gate is passed over since it is needless, by its cost, by the filter, by what could not be mended in time, or by its depth: in each case what
+-- is held stays.
 use borrow.Author.Needs.{needs}
 use mathlib.Core.Path.{_≡_, sym, ap, ap₂, _∙_, subst}
 use mathlib.Core.Bool.{false, false≢true}
@@ -15,14 +15,14 @@ use Rattle.pruned.proofs.Walk.{by-skip, by-bound}
 use Rattle.outputs.specs.Owed.{stuck}
 use Rattle.filters.specs.Reach.{sharesOf, held}
 use Rattle.node.specs.States.{listOf, needless}
-use Rattle.node.proofs.Nodes.{cost-snoc, five-columns}
-use Rattle.node.proofs.Reaches.{not-worth, unseen, stuck-after}
+use Rattle.node.proofs.Nodes.{cost-snoc}
+use Rattle.node.proofs.Reaches.{unseen, stuck-after}
 use Rattle.node.proofs.promising.Statement.{statement}
 use Rattle.node.proofs.promising.Tie as tie
 
 returns : tie.Need-returns
 returns c = (
-  (λ P remaining asks at is ht hp hr enough sieve f.
+  (λ P remaining asks at is ht hr enough sieve f.
       let a = c .before .before .before .before .args in
       by-skip needless P (a .task .«cost_limit») (listOf (a .s)) (remaining - 1) (a .entry .gate) (view (a .best))
       (sym (c .before .needless .ensures P (a .task) asks at (is .listed) ht) ∙ c .if1 .taken)),
@@ -31,68 +31,57 @@ returns c = (
 
 returns-2 : tie.Need-returns-2
 returns-2 c = (
-  (λ P remaining asks at is ht hp hr enough sieve f.
-      let s = c .before .before .before .before .before .before in
-      let a = s .args in
-      not-worth P (a .task) (a .s) asks at (a .task .«cost_limit») (a .entry .gate) remaining (a .most) (view (a .best)) (is .listed) hr (s .pre .1 .0 .1 .1) enough
-      (sym (c .before .worth .ensures (a .task .controls) (a .task .wanted) (a .s .columns) (asks .fair .few) (asks .kinds (a .entry .gate) (is .listed)) (five-columns P (a .s) at) ht hp)
-      ∙ not-true _ (c .if2 .taken))),
-  λ P asks at is ht f. absurd (false≢true f),
-)
-
-returns-3 : tie.Need-returns-3
-returns-3 c = (
-  (λ P remaining asks at is ht hp hr enough sieve f.
-      let a = c .before .before .before .before .before .before .before .before .before .before .before .args in
+  (λ P remaining asks at is ht hr enough sieve f.
+      let a = c .before .before .before .before .before .before .before .before .before .args in
       let l = listOf (a .s) in
       let g = a .entry .gate in
       let long = length-append l (g ∷ []) in
       let take-is = length-take-le (a .s .len) (a .s .path) (at .roomy) in
       by-bound needless P (a .task .«cost_limit») l (remaining - 1) g (view (a .best))
-      (c .before .dear .ensures (c .if3 .taken) P (l ++ (g ∷ [])) (remaining - 1) (ap₂ _+_ (at .paid) (is .priced) ∙ sym (cost-snoc P l g)) (omega arith))),
+      (c .before .dear .ensures (c .if2 .taken) P (l ++ (g ∷ [])) (remaining - 1) (ap₂ _+_ (at .paid) (is .priced) ∙ sym (cost-snoc P l g)) (omega arith))),
   λ P asks at is ht f. absurd (false≢true f),
 )
 
-returns-4 : tie.Need-returns-4
-returns-4 c = (
-  (λ P remaining asks at is ht hp hr enough sieve f.
-      let s = c .before .before .before .before .before .before .before .before .before .before .before .before .before .before .before .before in
+returns-3 : tie.Need-returns-3
+returns-3 c = (
+  (λ P remaining asks at is ht hr enough sieve f.
+      let s = c .before .before .before .before .before .before .before .before .before .before .before .before .before .before in
       let a = s .args in
       let next = c .before .before .step .ensures (a .task .controls) (a .task .wanted) (asks .fair .few) (asks .kinds (a .entry .gate) (is .listed)) ht in
-      let out = c .before .near-enough .ensures (not-true _ (c .if4 .taken)) in
+      let out = c .before .near-enough .ensures (not-true _ (c .if3 .taken)) in
       unseen P (a .task) (a .s) asks at (a .task .«cost_limit») (a .entry .gate) remaining (a .most) (view (a .best)) (is .listed) hr (s .pre .1 .0 .1 .1) enough (a .bits .now) (a .reach) sieve
       (out .0) (subst (λ (ds : List ℕ). held (a .bits .now) (a .reach .size) (sharesOf (a .reach) ds) 5 5 ≡ false) next (out .1))),
   λ P asks at is ht f. absurd (false≢true f),
 )
 
 stuck-requires : tie.Need-stuck-requires
-stuck-requires c κs = let fair = c .before .before .before .before .before .before .before .before .before .before .before .before .before .before .before .before .pre .1 .0 .0 in (fair .few, fair .wide)
+stuck-requires c κs = let fair = c .before .before .before .before .before .before .before .before .before .before .before .before .before .before .pre .1 .0 .0 in (fair .few, fair .wide)
 
-returns-5 : tie.Need-returns-5
-returns-5 c = (
-  (λ P remaining asks at is ht hp hr enough sieve f.
-      let s = c .before .before .before .before .before .before .before .before .before .before .before .before .before .before .before .before .before .before in
+returns-4 : tie.Need-returns-4
+returns-4 c = (
+  (λ P remaining asks at is ht hr enough sieve f.
+      let s = c .before .before .before .before .before .before .before .before .before .before .before .before .before .before .before .before in
       let a = s .args in
       let next = c .before .before .before .before .step .ensures (a .task .controls) (a .task .wanted) (asks .fair .few) (asks .kinds (a .entry .gate) (is .listed)) ht in
       stuck-after P (a .task) (a .s) asks at (a .task .«cost_limit») (a .entry .gate) remaining (a .most) (view (a .best)) (is .listed) hr (s .pre .1 .0 .1 .1) enough
-      (ap (λ (cs : List ℕ). stuck (a .task .controls) (a .task .wanted) cs (a .task .outputs) (a .task .free) (a .most - 1)) (sym next) ∙ sym (c .before .stuck .ensures) ∙ c .if5 .taken)),
+      (ap (λ (cs : List ℕ). stuck (a .task .controls) (a .task .wanted) cs (a .task .outputs) (a .task .free) (a .most - 1)) (sym next) ∙ sym (c .before .stuck .ensures) ∙ c .if4 .taken)),
   λ P asks at is ht f. absurd (false≢true f),
 )
 
 in-time-requires : tie.Need-in-time-requires
-in-time-requires c κs = let s = c .before .before .before .before .before .before .before .before .before .before .before .before .before .before .before .before .before .before in (s .pre .1 .0 .1 .0, s .pre .1 .1)
+in-time-requires c κs = let s = c .before .before .before .before .before .before .before .before .before .before .before .before .before .before .before .before in (s .pre .1 .0 .1 .0, s .pre .1 .1)
 
-returns-6 : tie.Need-returns-6
-returns-6 c = (
-  (λ P remaining asks at is ht hp hr enough sieve f.
-      let a = c .before .before .before .before .before .before .before .before .before .before .before .before .before .before .before .before .before .before .before .args in
+returns-5 : tie.Need-returns-5
+returns-5 c = (
+  (λ P remaining asks at is ht hr enough sieve f.
+      let a = c .before .before .before .before .before .before .before .before .before .before .before .before .before .before .before .before .before .args in
       by-bound needless P (a .task .«cost_limit») (listOf (a .s)) (remaining - 1) (a .entry .gate) (view (a .best))
       (cut-depth P (a .task .«cost_limit») (listOf (a .s) ++ (a .entry .gate ∷ [])) (remaining - 1) (view (a .best)) (c .in-time .ensures f P asks at is))),
-  λ P asks at is ht f. sym (c .before .before .before .before .before .before .before .before .before .before .before .before .before .before .before .before .needless .ensures P _ asks at (is .listed) ht) ∙ c .before .before .before .before .before .before .before .before .before .before .before .before .before .before .before .if1 .left,
+  λ P asks at is ht f. sym (c .before .before .before .before .before .before .before .before .before .before .before .before .before .before .needless .ensures P _ asks at (is .listed) ht) ∙ c .before .before .before .before .before .before .before .before .before .before .before .before .before .if1 .left,
 )
 
 pub promising-spec : {M : Type 1} → statement M
 promising-spec =
     tie.close
-    (tie.spec (λ c κs. search needs) returns (λ c κs. let s = c .before .before .before .before in (s .pre .0 .0, (s .pre .0 .1, s .pre .1 .0 .0 .wide))) returns-2 (λ c. search needs) (λ c. search needs) (λ c. search needs) (λ c. search needs) (λ c κs. search needs) returns-3
-    (λ c κs. search needs) (λ c. c .before .before .before .before .before .before .before .before .before .before .before .before .before .before .pre .1 .0 .1 .1) (λ c κs. search needs) returns-4 (λ c. c .before .before .before .before .before .before .before .before .before .before .before .before .before .before .before .before .pre .1 .0 .1 .1) stuck-requires returns-5 in-time-requires returns-6)
+    (tie.spec (λ c κs. search needs) returns (λ c. search needs) (λ c. search needs) (λ c. search needs) (λ c. search needs) (λ c κs. search needs) returns-2
+    (λ c κs. search needs) (λ c. c .before .before .before .before .before .before .before .before .before .before .before .before .pre .1 .0 .1 .1) (λ c κs. search needs) returns-3 (λ c. c .before .before .before .before .before .before .before .before .before .before .before .before .before .before .pre .1 .0 .1 .1) stuck-requires returns-4 in-time-requires returns-5)

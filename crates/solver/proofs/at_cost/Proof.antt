@@ -10,12 +10,12 @@ use Rattle.solver.proofs.at_cost.Tie as tie
 
 returns : tie.Need-returns
 returns c =
-    let s = c .before .before .before .before .before .before .before in
+    let s = c .before .before .before .before .before .before .before .before in
     let a = s .args in
     let limit = a .task .«cost_limit» in
     let e = c .before .before .reach .ensures .0 in
     let k = c .before .if1 .taken in (
-      (λ P posed bounded hl hg past. record {
+      (λ P posed bounded hl hg past counted. record {
         failed = λ f. dearer P limit λ x m h q. omega (arith, rw (← hg) at (bought P (a .least) bounded limit x m h q), past .gates-least x m h q);
         first = λ f. absurd (true≢false (sym f ∙ c .nothing .ensures .1 .0));
       }),
@@ -24,7 +24,7 @@ returns c =
 
 fewest-requires : tie.Need-fewest-requires
 fewest-requires c κs =
-    let s = c .before .before .before .before .before .before in
+    let s = c .before .before .before .before .before .before .before in
     let m = s .pre .1 .1 in
     let k = c .if1 .left in
     let r = c .before .reach .ensures .1 in
@@ -32,14 +32,14 @@ fewest-requires c κs =
 
 returns-2 : tie.Need-returns-2
 returns-2 c =
-    let s = c .before .before .before .before .before .before .before in
+    let s = c .before .before .before .before .before .before .before .before in
     let a = s .args in
     let limit = a .task .«cost_limit» in
     let r = c .before .before .reach in
     let e = r .ensures .0 in
     let k = r .ensures .1 in (
-      (λ P posed bounded hl hg past.
-          let d = c .fewest .ensures .0 P posed bounded hl (omega arith) past in
+      (λ P posed bounded hl hg past counted.
+          let d = c .fewest .ensures .0 P posed bounded hl (omega arith) past counted in
           record {
             failed = λ f. dearer P limit λ x m h q. omega (arith, rw (← hg) at (bought P (a .least) bounded limit x m h q), d .failed f .gates-least x m h q);
             first = d .first;
@@ -50,4 +50,4 @@ returns-2 c =
 pub at-cost-spec : {M : Type 1} → statement M
 at-cost-spec =
     tie.close
-    (tie.spec (λ c κs. let r = c .before .before .before .before .pre .1 .0 in (r .few, r .modest)) (λ c κs. search needs) returns fewest-requires returns-2)
+    (tie.spec (λ c κs. let r = c .before .before .before .before .before .pre .1 .0 in (r .few, r .modest)) (λ c κs. search needs) returns fewest-requires returns-2)

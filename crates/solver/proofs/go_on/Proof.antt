@@ -5,6 +5,7 @@ use borrow.Author.Needs.{needs}
 use Rattle.problem.specs.Inner.{Past}
 use Rattle.solver.specs.States.{Deepened}
 use Rattle.solver.proofs.Handover.{deepened-held, past-from}
+use Rattle.solver.proofs.Searches.{no-sums}
 use Rattle.solver.proofs.go_on.Statement.{statement}
 use Rattle.solver.proofs.go_on.Tie as tie
 
@@ -16,14 +17,15 @@ returns c =
 
 returns-2 : tie.Need-returns-2
 returns-2 c =
-    let s = c .before .before .before .before .before .before in
+    let s = c .before .before .before .before .before .before .before in
     let a = s .args in (
       (λ P posed bounded limited hg d.
           subst (λ (l : ℕ). Deepened P l (a .most) (c .fewest .result)) (limited .cost-most)
           (c .fewest .ensures .0 P posed bounded (omega (arith, limited .cost-most)) hg
-          (subst (λ (l : ℕ). Past P l (a .from)) (sym (limited .cost-most)) (past-from P (P .mostCost) (a .from) (s .pre .1 .1 .0) (d .failed (c .before .if1 .left)))))),
+          (subst (λ (l : ℕ). Past P l (a .from)) (sym (limited .cost-most)) (past-from P (P .mostCost) (a .from) (s .pre .1 .1 .0) (d .failed (c .before .before .if1 .left))))
+          (no-sums P (a .task .«cost_limit»)))),
       c .fewest .ensures .1,
     )
 
 pub go-on-spec : {M : Type 1} → statement M
-go-on-spec = tie.close (tie.spec returns (λ c κs. search needs) returns-2)
+go-on-spec = tie.close (tie.spec returns (λ c. search needs) (λ c κs. search needs) returns-2)

@@ -10,15 +10,14 @@ returns c =
     let s = c .before .before .before .before .before .before in
     ((λ P most posed bounded limited d. settled-none P most _ refl (d .failed (not-true _ (c .if1 .taken)))), s .pre .1 .1)
 
-cheaper-requires : tie.Need-cheaper-requires
-cheaper-requires c κs =
-    let s = c .before .before .before .before .before .before .before .before .before .before in
-    (s .pre .0, (s .pre .1 .0, (c .before .before .mark .ensures .1, (not-false _ (c .before .before .before .before .if1 .left), s .pre .1 .1))))
+underbid-requires : tie.Need-underbid-requires
+underbid-requires c κs = let s = c .before .before .before .before .before .before .before in (s .pre .0, (s .pre .1 .0, (not-false _ (c .before .if1 .left), s .pre .1 .1)))
 
 returns-2 : tie.Need-returns-2
 returns-2 c =
-    let found = not-false _ (c .before .before .before .before .before .if1 .left) in
-    ((λ P most posed bounded limited d. settled-first P most _ refl (c .cheaper .ensures .0 P posed bounded limited (d .first found))), c .cheaper .ensures .1)
+    let found = not-false _ (c .before .before .before .if1 .left) in
+    let r = c .before .underbid in
+    ((λ P most posed bounded limited d. settled-first P most _ refl (r .ensures .0 P posed bounded limited (d .first found))), r .ensures .1)
 
 pub settle-spec : {M : Type 1} → statement M
-settle-spec = tie.close (tie.spec returns (λ c. search needs) (λ c κs. search needs) (λ c. search needs) cheaper-requires returns-2)
+settle-spec = tie.close (tie.spec returns (λ c. search needs) underbid-requires returns-2)

@@ -23,7 +23,7 @@ use Rattle.problem.specs.Problems.{Problem, here, within}
 use Rattle.problem.specs.Inner.{Enough}
 use Rattle.problem.proofs.Skips.{enough-since}
 use Rattle.pruned.specs.Pruned.{branches, triedUnder, triedBy}
-use Rattle.pruned.proofs.Walk.{by-entering, walk-stop, walk-turn, walk-end}
+use Rattle.pruned.proofs.Walk.{spared, by-entering, walk-stop, walk-turn, walk-end}
 use Rattle.outputs.specs.Owed.{lost}
 use Rattle.products.specs.Products.{tableOf}
 use Rattle.plan.specs.Plan.{planOf}
@@ -31,35 +31,39 @@ use Rattle.filters.specs.Reach.{Sieve}
 use Rattle.node.specs.declared.Task.{Task}
 use Rattle.node.specs.declared.Node.{Node}
 use Rattle.node.specs.declared.Entry.{Entry}
-use Rattle.node.specs.States.{listOf, needless, Posed, Bounded, At, Lists}
+use Rattle.node.specs.States.{listOf, needless, Posed, Bounded, At, Exact, Lists}
 use Rattle.node.proofs.Nodes.{five-columns}
-use Rattle.node.proofs.Reaches.{far, shut}
+use Rattle.node.proofs.Reaches.{far, shut, not-worth}
+use Rattle.node.proofs.Exactly.{exact-next}
 use Rattle.walk.proofs.dfs.Reads as dfs
 use Rattle.walk.proofs.dfs.Kinds as dfs-kinds
 use Rattle.walk.proofs.+dfs.Lts-dfs as dfs-lts
 use Rattle.logic.proofs.either.Reads as either-reads
 use Rattle.plan.proofs.plan_of.Reads as plan-of-reads
 use Rattle.products.proofs.table_of.Reads as table-of-reads
-use Rattle.filters.proofs.open.Reads as open-reads
 use Rattle.filters.proofs.open_wires.Reads as open-wires-reads
 use Rattle.node.proofs.advance.Reads as advance-reads
 use Rattle.node.proofs.affordable.Reads as affordable-reads
 use Rattle.node.proofs.consider_met.Reads as consider-met-reads
+use Rattle.node.proofs.impossible.Reads as impossible-reads
+use Rattle.node.proofs.eligible.Reads as eligible-reads
 use Rattle.node.proofs.promising.Reads as promising-reads
 use Rattle.walk.proofs.+dfs.{statement}
 use Rattle.walk.proofs.+dfs.Tie.{close}
 
-abbrev μ-dfs : Measures 4 dfs-kinds.ps ℕ
+abbrev μ-dfs : Measures 5 dfs-kinds.ps ℕ
 μ-dfs κs a = a .1 .1 .1 .1 .1 .1 .0
 
-abbrev dfs-at : ℕ → In 4 dfs-kinds.ps
-dfs-at t = and 4 dfs-kinds.ps (is 4 dfs-kinds.ps μ-dfs t) dfs.Pre
+abbrev dfs-at : ℕ → In 5 dfs-kinds.ps
+dfs-at t = and 5 dfs-kinds.ps (is 5 dfs-kinds.ps μ-dfs t) dfs.Pre
 
-abbrev dfs-below : ℕ → In 4 dfs-kinds.ps
-dfs-below t = and 4 dfs-kinds.ps (falls 4 dfs-kinds.ps _<_ μ-dfs t) dfs.Pre
+abbrev dfs-below : ℕ → In 5 dfs-kinds.ps
+dfs-below t = and 5 dfs-kinds.ps (falls 5 dfs-kinds.ps _<_ μ-dfs t) dfs.Pre
 
 abbrev callees : ℕ → dfs-lts.Claims
 callees t = (
+  impossible-reads.Asked,
+  impossible-reads.Learnt,
   affordable-reads.Asked,
   affordable-reads.Learnt,
   plan-of-reads.Asked,
@@ -72,8 +76,8 @@ callees t = (
   table-of-reads.Learnt,
   open-wires-reads.Asked,
   open-wires-reads.Learnt,
-  open-reads.Asked,
-  open-reads.Learnt,
+  eligible-reads.Asked,
+  eligible-reads.Learnt,
   promising-reads.Asked,
   promising-reads.Learnt,
   advance-reads.Asked,
@@ -83,32 +87,42 @@ callees t = (
 )
 
 abbrev dfs-Inv-loop : dfs-lts.InvT-loop
-dfs-Inv-loop gates prices durations task least s remaining bits reach most plan b₀ table wires i₀ b i =
+dfs-Inv-loop gates prices durations task least s remaining bits reach sums most plan b₀ table wires i₀ b i =
     (i ≤ length gates) × ((1 ≤ most) × ((b .len ≤ 12) × ((P : Problem) → Posed P task gates prices durations → Bounded P least → At P s
-    → view b ≡ improve (within P (task .«cost_limit»)) (view b₀) (branches needless (here P) (P .gates) (listOf s) (remaining - 1) i))))
+    → Exact P (task .«cost_limit») (listOf s) remaining sums → view b ≡ improve (within P (task .«cost_limit»)) (view b₀) (branches needless (here P) (P .gates) (listOf s) (remaining - 1) i))))
 
 abbrev dfs-μ-loop : dfs-lts.MeasureT-loop
-dfs-μ-loop gates prices durations task least s remaining bits reach most plan b₀ table wires i₀ b i = length gates - i
+dfs-μ-loop gates prices durations task least s remaining bits reach sums most plan b₀ table wires i₀ b i = length gates - i
 
 dfs-returns : (t : ℕ) → dfs-lts.Need-returns (callees t) (dfs-at t) dfs.Post dfs-Inv-loop dfs-μ-loop
 dfs-returns t c =
-    let s = c .before .before .before .before .before .before .before .before .before .before .before .before in
-    let a = s .args in
-    let m = c .before .before .before .before .before .before .before .affordable in
-    let e = c .before .before .before .before .plan-of .ensures .1 in (
-      (λ P posed bounded at.
-          far P (a .task) (a .s) (posed .asks) at (a .task .«cost_limit») (a .remaining) (m .result) (view (a .best)) (m .ensures .1 P bounded at)
-          (⊎-elim (λ h. inl (omega (arith, ltb-true (m .result) (c .before .before .before .before .plan-of .result .lost) h, e))) (λ h. inr (ltb-true _ _ h)) (either-cases _ _ (sym (c .before .either .ensures) ∙ c .if1 .taken)))),
+    let s = c .before .before .before .before .before .before .before in
+    let a = s .args in (
+      (λ P posed bounded at exact.
+          sym (spared needless P (a .task .«cost_limit») (listOf (a .s)) (a .remaining) (view (a .best))
+          (c .before .impossible .ensures (c .if1 .taken) P (listOf (a .s)) (at .paid) exact (view (a .best))))),
       s .pre .1 .1 .1 .0 .1,
     )
 
 dfs-returns-2 : (t : ℕ) → dfs-lts.Need-returns-2 (callees t) (dfs-at t) dfs.Post dfs-Inv-loop dfs-μ-loop
 dfs-returns-2 t c =
-    let a = c .before .before .before .before .before .before .before .before .before .before .before .before .before .before .args in
+    let s = c .before .before .before .before .before .before .before .before .before .before .before .before .before .before .before in
+    let a = s .args in
+    let m = c .before .before .before .before .before .before .before .affordable in
+    let e = c .before .before .before .before .plan-of .ensures .1 in (
+      (λ P posed bounded at exact.
+          far P (a .task) (a .s) (posed .asks) at (a .task .«cost_limit») (a .remaining) (m .result) (view (a .best)) (m .ensures .1 P bounded at)
+          (⊎-elim (λ h. inl (omega (arith, ltb-true (m .result) (c .before .before .before .before .plan-of .result .lost) h, e))) (λ h. inr (ltb-true _ _ h)) (either-cases _ _ (sym (c .before .either .ensures) ∙ c .if2 .taken)))),
+      s .pre .1 .1 .1 .0 .1,
+    )
+
+dfs-returns-3 : (t : ℕ) → dfs-lts.Need-returns-3 (callees t) (dfs-at t) dfs.Post dfs-Inv-loop dfs-μ-loop
+dfs-returns-3 t c =
+    let a = c .before .before .before .before .before .before .before .before .before .before .before .before .before .before .before .before .before .args in
     let m = c .before .before .before .before .before .before .before .before .before .affordable in
     let k = c .before .consider-met in (
-      (λ P posed bounded at.
-          walk-stop needless P (a .task .«cost_limit») (listOf (a .s)) (a .remaining) (m .result) (view (a .best)) (view (k .result)) (m .ensures .1 P bounded at) (c .if2 .taken)
+      (λ P posed bounded at exact.
+          walk-stop needless P (a .task .«cost_limit») (listOf (a .s)) (a .remaining) (m .result) (view (a .best)) (view (k .result)) (m .ensures .1 P bounded at) (c .if3 .taken)
           (k .ensures .0 P (posed .asks) at)),
       k .ensures .1,
     )
@@ -116,13 +130,13 @@ dfs-returns-2 t c =
 dfs-loop-holds : (t : ℕ) → dfs-lts.Need-loop-holds (callees t) (dfs-at t) dfs.Post dfs-Inv-loop dfs-μ-loop
 unfolding improve flatMap
 dfs-loop-holds t c =
-    let z = c .before .before .if2 .left in
-    (omega arith, (omega arith, (c .before .before .before .consider-met .ensures .1, λ P posed bounded at. refl)))
+    let z = c .before .before .if3 .left in
+    (omega arith, (omega arith, (c .before .before .before .consider-met .ensures .1, λ P posed bounded at exact. refl)))
 
 -- what is known in a turn of the loop
-module _ (t : ℕ) (p : dfs-lts.At-loop (callees t) (dfs-at t) dfs.Post dfs-Inv-loop dfs-μ-loop) (index : p .loop .i < length (p .before .before .before .before .before .before .before .before .before .before .before .before .before .before .before .before .before .args .gates .now)) where
+module _ (t : ℕ) (p : dfs-lts.At-loop (callees t) (dfs-at t) dfs.Post dfs-Inv-loop dfs-μ-loop) (index : p .loop .i < length (p .before .before .before .before .before .before .before .before .before .before .before .before .before .before .before .before .before .before .before .before .args .gates .now)) where
   abbrev start : dfs-lts.Start (callees t) (dfs-at t) dfs.Post dfs-Inv-loop dfs-μ-loop
-  start = p .before .before .before .before .before .before .before .before .before .before .before .before .before .before .before .before .before
+  start = p .before .before .before .before .before .before .before .before .before .before .before .before .before .before .before .before .before .before .before .before
 
   abbrev task : Task
   task = start .args .task
@@ -162,7 +176,7 @@ module _ (t : ℕ) (p : dfs-lts.At-loop (callees t) (dfs-at t) dfs.Post dfs-Inv-
   table-is = p .before .before .table-of .ensures
 
   module _ (P : Problem) (posed : Posed P task (start .args .gates .now) (start .args .prices .now) (start .args .durations .now)) (bounded : Bounded P (start .args .least))
-      (at : At P node) where
+      (at : At P node) (exact : Exact P limit (listOf node) remaining (start .args .sums .now)) where
     tried-is : Lists P entry
     tried-is = record {
       listed = subst (λ (l : List ℕ). List·Memᴰ (entry .gate) l) (posed .listed) (member-at (start .args .gates .now) (p .loop .i) index);
@@ -178,7 +192,7 @@ module _ (t : ℕ) (p : dfs-lts.At-loop (callees t) (dfs-at t) dfs.Post dfs-Inv-
     enough =
         enough-since P limit (listOf node) remaining most (view (start .args .best)) (p .before .before .before .before .before .before .before .before .before .before .before .before .affordable .ensures .1 P bounded at) (view (p .loop .b))
         (here P (listOf node) ++ branches needless (here P) (P .gates) (listOf node) (remaining - 1) (p .loop .i))
-        (p .loop .inv .1 .1 .1 P posed bounded at
+        (p .loop .inv .1 .1 .1 P posed bounded at exact
         ∙ ap (λ (x : Option Choice). improve (within P limit) x (branches needless (here P) (P .gates) (listOf node) (remaining - 1) (p .loop .i))) (p .before .before .before .before .consider-met .ensures .0 P (posed .asks) at)
         ∙ sym (improve-append (within P limit) (view (start .args .best)) (here P (listOf node)) _))
 
@@ -187,29 +201,36 @@ module _ (t : ℕ) (p : dfs-lts.At-loop (callees t) (dfs-at t) dfs.Post dfs-Inv-
         → y ≡ improve (within P limit) (view (p .before .before .before .before .consider-met .result)) (branches needless (here P) (P .gates) (listOf node) (remaining - 1) (p .loop .i + 1))
     turned y e =
         walk-turn needless P limit (listOf node) (remaining - 1) (p .loop .i) (view (p .before .before .before .before .consider-met .result)) (view (p .loop .b)) y
-        (rw (posed .listed) at index) (p .loop .inv .1 .1 .1 P posed bounded at)
+        (rw (posed .listed) at index) (p .loop .inv .1 .1 .1 P posed bounded at exact)
         (e ∙ ap (λ (g : List ℕ). triedBy needless P limit (listOf node) (remaining - 1) (getD g (p .loop .i) 0) (view (p .loop .b))) (posed .listed))
+
+dfs-eligible-requires : (t : ℕ) → dfs-lts.Need-eligible-requires (callees t) (dfs-at t) dfs.Post dfs-Inv-loop dfs-μ-loop
+unfolding tableOf
+dfs-eligible-requires t c κs =
+    let p = c .before .before .before in
+    let h = c .before .before .loop-test .taken in
+    (ap length (table-is t p h), (tried-target t p h, start t p h .pre .1 .1 .0 .0 .wide))
 
 dfs-promising-requires : (t : ℕ) → dfs-lts.Need-promising-requires (callees t) (dfs-at t) dfs.Post dfs-Inv-loop dfs-μ-loop
 unfolding tableOf
 dfs-promising-requires t c κs =
-    let p = c .before .before .before .before .before .before .before in
-    let h = c .before .before .before .before .before .before .loop-test .taken in
+    let p = c .before .before .before .before .before .before .before .before in
+    let h = c .before .before .before .before .before .before .before .loop-test .taken in
     let s = start t p h in
     ((ap length (table-is t p h), tried-target t p h), ((s .pre .1 .1 .0 .0, (room t p h, p .loop .inv .1 .0)), s .pre .1 .1 .1 .1))
 
 dfs-advance-requires : (t : ℕ) → dfs-lts.Need-advance-requires (callees t) (dfs-at t) dfs.Post dfs-Inv-loop dfs-μ-loop
 unfolding tableOf
 dfs-advance-requires t c κs =
-    let p = c .before .before .before .before .before .before .before .before .before .before in
-    let h = c .before .before .before .before .before .before .before .before .before .loop-test .taken in
+    let p = c .before .before .before .before .before .before .before .before .before .before .before in
+    let h = c .before .before .before .before .before .before .before .before .before .before .loop-test .taken in
     let s = start t p h in
     ((ap length (table-is t p h), tried-target t p h), ((s .pre .1 .1 .0 .0 .wide, room t p h), s .pre .1 .1 .1 .1))
 
 dfs-dfs-requires : (t : ℕ) → dfs-lts.Need-dfs-requires (callees t) (dfs-at t) dfs.Post dfs-Inv-loop dfs-μ-loop
 dfs-dfs-requires t c κs =
-    let p = c .before .before .before .before .before .before .before .before .before .before .before in
-    let h = c .before .before .before .before .before .before .before .before .before .before .loop-test .taken in
+    let p = c .before .before .before .before .before .before .before .before .before .before .before .before in
+    let h = c .before .before .before .before .before .before .before .before .before .before .before .loop-test .taken in
     let s = start t p h in
     let m = s .pre .0 in
     let r = some-left t p h in
@@ -218,66 +239,75 @@ dfs-dfs-requires t c κs =
     (omega arith, (s .pre .1 .0, (s .pre .1 .1 .0, ((omega arith, p .loop .inv .1 .1 .0), c .advance .ensures .0 .1))))
 
 -- what the turn comes to, by each of its three ways
-dfs-turn : (t : ℕ) (c : dfs-lts.Joined3 (callees t) (dfs-at t) dfs.Post dfs-Inv-loop dfs-μ-loop)
-    → let p = c .before .before .before .before in (h : p .loop .i < length (p .before .before .before .before .before .before .before .before .before .before .before .before .before .before .before .before .before .args .gates .now)) → (c .if3 .b .len ≤ 12) × ((P : Problem)
+dfs-turn : (t : ℕ) (c : dfs-lts.Joined4 (callees t) (dfs-at t) dfs.Post dfs-Inv-loop dfs-μ-loop)
+    → let p = c .before .before .before .before .before in (h : p .loop .i < length (p .before .before .before .before .before .before .before .before .before .before .before .before .before .before .before .before .before .before .before .before .args .gates .now)) → (c .if4 .b .len ≤ 12) × ((P : Problem)
     → Posed P (task t p h) (start t p h .args .gates .now) (start t p h .args .prices .now) (start t p h .args .durations .now) → Bounded P (start t p h .args .least)
-    → At P (node t p h)
-    → view (c .if3 .b) ≡ triedBy needless P (limit t p h) (listOf (node t p h)) (remaining t p h - 1) (entry t p h .gate) (view (p .loop .b)))
+    → At P (node t p h) → Exact P (limit t p h) (listOf (node t p h)) (remaining t p h) (start t p h .args .sums .now)
+    → view (c .if4 .b) ≡ triedBy needless P (limit t p h) (listOf (node t p h)) (remaining t p h - 1) (entry t p h .gate) (view (p .loop .b)))
 dfs-turn t c h =
-    let p = c .before .before .before .before in
+    let p = c .before .before .before .before .before in
     let small = p .loop .inv .1 .1 .0 in
     ⊎-elim
     (λ d.
     let e = d .9 in (
       rw e (d .8 .ensures .1),
-      λ P posed bounded at.
-          let f = d .7 .ensures .1 P (posed .asks) at (tried-is t p h P posed bounded at) (table-is t p h) in
-          ap view e ∙ d .8 .ensures .0 P posed bounded (f .at)
+      λ P posed bounded at exact.
+          let f = d .7 .ensures .1 P (posed .asks) at (tried-is t p h P posed bounded at exact) (table-is t p h) in
+          let x = exact-next P (limit t p h) (listOf (node t p h)) (remaining t p h) (start t p h .args .sums .now) exact (entry t p h .gate) (tried-is t p h P posed bounded at exact .listed) (some-left t p h) in
+          ap view e
+          ∙ d .8 .ensures .0 P posed bounded (f .at)
+          (subst (λ (l : List ℕ). Exact P (limit t p h) l (remaining t p h - 1) (start t p h .args .sums .now)) (sym (f .longer)) x)
           ∙ ap (λ (l : List ℕ). triedUnder needless P (limit t p h) l (remaining t p h - 1) (view (p .loop .b))) (f .longer)
           ∙ by-entering needless P (limit t p h) (listOf (node t p h)) (remaining t p h - 1) (entry t p h .gate) (view (p .loop .b))
-          (d .4 .ensures .1 P (posed .asks) at (tried-is t p h P posed bounded at) (table-is t p h) (d .5 .taken)),
+          (d .4 .ensures .1 P (posed .asks) at (tried-is t p h P posed bounded at exact) (table-is t p h) (d .5 .taken)),
     ))
     (λ o.
     ⊎-elim
     (λ d.
     let e = d .6 in (
       rw e small,
-      λ P posed bounded at.
+      λ P posed bounded at exact.
           ap view e
-          ∙ d .4 .ensures .0 P (remaining t p h) (posed .asks) at (tried-is t p h P posed bounded at) (table-is t p h) (plan-is t p h) (some-left t p h) (enough t p h P posed bounded at) (sieve-is t p h P posed bounded at) (d .5 .left),
+          ∙ d .4 .ensures .0 P (remaining t p h) (posed .asks) at (tried-is t p h P posed bounded at exact) (table-is t p h) (some-left t p h) (enough t p h P posed bounded at exact) (sieve-is t p h P posed bounded at exact) (d .5 .left),
     ))
     (λ d.
     let e = d .1 in (
       rw e small,
-      λ P posed bounded at.
+      λ P posed bounded at exact.
           ap view e
-          ∙ shut P (task t p h) (node t p h) (posed .asks) at (limit t p h) (entry t p h .gate) (remaining t p h) (most t p h) (view (p .loop .b))
-          (tried-is t p h P posed bounded at .listed) (some-left t p h) (p .loop .inv .1 .0) (enough t p h P posed bounded at)
-          (start t p h .args .bits .now) (start t p h .args .reach) (sieve-is t p h P posed bounded at) (p .before .open-wires .result) (p .before .open-wires .ensures) (tried-target t p h)
-          (c .before .open .ensures (d .0 .left)),
+          ∙ ⊎-elim
+          (λ z.
+          shut P (task t p h) (node t p h) (posed .asks) at (limit t p h) (entry t p h .gate) (remaining t p h) (most t p h) (view (p .loop .b))
+          (tried-is t p h P posed bounded at exact .listed) (some-left t p h) (p .loop .inv .1 .0) (enough t p h P posed bounded at exact)
+          (start t p h .args .bits .now) (start t p h .args .reach) (sieve-is t p h P posed bounded at exact) (p .before .open-wires .result) (p .before .open-wires .ensures) (tried-target t p h) z)
+          (λ z.
+          not-worth P (task t p h) (node t p h) (posed .asks) at (limit t p h) (entry t p h .gate) (remaining t p h) (most t p h) (view (p .loop .b))
+          (tried-is t p h P posed bounded at exact .listed) (some-left t p h) (p .loop .inv .1 .0) (enough t p h P posed bounded at exact) z)
+          (c .before .eligible .ensures (d .0 .left) (task t p h .controls) (task t p h .wanted) (node t p h .columns) (posed .asks .fair .few)
+          (posed .asks .kinds (entry t p h .gate) (tried-is t p h P posed bounded at exact .listed)) (five-columns P (node t p h) at) (table-is t p h) (plan-is t p h)),
     ))
     o)
-    (c .if3 .came)
+    (c .if4 .came)
 
 dfs-loop-again : (t : ℕ) → dfs-lts.Need-loop-again (callees t) (dfs-at t) dfs.Post dfs-Inv-loop dfs-μ-loop
 dfs-loop-again t c =
-    let p = c .before .before .before .before in
-    let h = c .before .before .before .loop-test .taken in
+    let p = c .before .before .before .before .before in
+    let h = c .before .before .before .before .loop-test .taken in
     let r = dfs-turn t c h in
-    (omega arith, (p .loop .inv .1 .0, (r .0, λ P posed bounded at. turned t p h P posed bounded at (view (c .if3 .b)) (r .1 P posed bounded at))))
+    (omega arith, (p .loop .inv .1 .0, (r .0, λ P posed bounded at exact. turned t p h P posed bounded at exact (view (c .if4 .b)) (r .1 P posed bounded at exact))))
 
-dfs-returns-3 : (t : ℕ) → dfs-lts.Need-returns-3 (callees t) (dfs-at t) dfs.Post dfs-Inv-loop dfs-μ-loop
-dfs-returns-3 t c =
+dfs-returns-4 : (t : ℕ) → dfs-lts.Need-returns-4 (callees t) (dfs-at t) dfs.Post dfs-Inv-loop dfs-μ-loop
+dfs-returns-4 t c =
     let p = c .before in
-    let s = p .before .before .before .before .before .before .before .before .before .before .before .before .before .before .before .before .before in
+    let s = p .before .before .before .before .before .before .before .before .before .before .before .before .before .before .before .before .before .before .before .before in
     let a = s .args in
     let i = p .loop .inv in
     let q : p .loop .i ≡ length (a .gates .now) = let x = i .0 in let y = c .loop-test .left in omega arith in
     let k = i .1 .0 in
     let m = p .before .before .before .before .before .before .before .before .before .before .before .before .affordable .ensures .0 in (
-      (λ P posed bounded at.
+      (λ P posed bounded at exact.
           walk-end needless P (a .task .«cost_limit») (listOf (a .s)) (a .remaining) (view (a .best)) (view (p .before .before .before .before .consider-met .result)) (view (p .loop .b)) (omega arith)
-          (p .before .before .before .before .consider-met .ensures .0 P (posed .asks) at) (rw (q, posed .listed) at (i .1 .1 .1 P posed bounded at))),
+          (p .before .before .before .before .consider-met .ensures .0 P (posed .asks) at) (rw (q, posed .listed) at (i .1 .1 .1 P posed bounded at exact))),
       i .1 .1 .0,
     )
 
@@ -291,27 +321,30 @@ pub +dfs-spec : {M : Type 1} → statement M
     dfs.Post
     dfs-Inv-loop
     dfs-μ-loop
-    (λ c κs. let s = c .before .before .before .before in (s .pre .1 .1 .1 .1 .few, s .pre .1 .1 .0 .1))
-    (λ c κs. c .before .before .before .before .before .before .before .pre .1 .1 .0 .0 .wide)
-    (λ c κs. search needs)
+    (λ c κs. let h = c .before .before .before .before .before .pre .1 .1 .1 .0 .0 in omega arith)
     (dfs-returns t)
-    (λ c κs. let s = c .before .before .before .before .before .before .before .before .before .before .before .before in let h = s .pre .1 .1 .1 .0 .0 in (s .pre .1 .1 .0 .0 .wide, ((omega arith, s .pre .1 .1 .1 .0 .1), c .before .before .before .before .plan-of .ensures .1)))
+    (λ c κs. let s = c .before .before .before .before .before .before .before in (s .pre .1 .1 .1 .1 .few, s .pre .1 .1 .0 .1))
+    (λ c κs. c .before .before .before .before .before .before .before .before .before .before .pre .1 .1 .0 .0 .wide)
+    (λ c κs. search needs)
     (dfs-returns-2 t)
-    (λ c κs. c .before .before .before .before .before .before .before .before .before .before .before .before .before .before .pre .1 .1 .0 .0 .few)
-    (λ c. let z = c .before .if2 .left in omega arith)
+    (λ c κs. let s = c .before .before .before .before .before .before .before .before .before .before .before .before .before .before .before in let h = s .pre .1 .1 .1 .0 .0 in (s .pre .1 .1 .0 .0 .wide, ((omega arith, s .pre .1 .1 .1 .0 .1), c .before .before .before .before .plan-of .ensures .1)))
+    (dfs-returns-3 t)
+    (λ c κs. c .before .before .before .before .before .before .before .before .before .before .before .before .before .before .before .before .before .pre .1 .1 .0 .0 .few)
+    (λ c. let z = c .before .if3 .left in omega arith)
     (λ c κs. search needs)
     (dfs-loop-holds t)
     (λ c. search needs)
-    (λ c κs. search needs)
-    (λ c. let p = c .before .before .before .before .before in omega (arith, c .before .before .before .before .loop-test .taken, p .before .before .before .before .before .before .before .before .before .before .before .before .before .before .before .before .before .pre .1 .0 .priced-all))
-    (λ c. let p = c .before .before .before .before .before .before in omega (arith, c .before .before .before .before .before .loop-test .taken, p .before .before .before .before .before .before .before .before .before .before .before .before .before .before .before .before .before .pre .1 .0 .timed-all))
+    (λ c. search needs)
+    (dfs-eligible-requires t)
+    (λ c. let p = c .before .before .before .before .before .before in omega (arith, c .before .before .before .before .before .loop-test .taken, p .before .before .before .before .before .before .before .before .before .before .before .before .before .before .before .before .before .before .before .before .pre .1 .0 .priced-all))
+    (λ c. let p = c .before .before .before .before .before .before .before in omega (arith, c .before .before .before .before .before .before .loop-test .taken, p .before .before .before .before .before .before .before .before .before .before .before .before .before .before .before .before .before .before .before .before .pre .1 .0 .timed-all))
     (λ c. search needs)
     (dfs-promising-requires t)
     (λ c. search needs)
     (dfs-advance-requires t)
-    (λ c. some-left t (c .before .before .before .before .before .before .before .before .before .before .before) (c .before .before .before .before .before .before .before .before .before .before .loop-test .taken))
+    (λ c. some-left t (c .before .before .before .before .before .before .before .before .before .before .before .before) (c .before .before .before .before .before .before .before .before .before .before .before .loop-test .taken))
     (dfs-dfs-requires t)
-    (λ c. let h = c .before .before .before .loop-test .taken in let k = dfs-short t (c .before .before .before .before .before .before .before .before .before .before .before .before .before .before .before .before .before .before .before .before .before) in search needs)
-    (λ c. let h = c .before .before .before .loop-test .taken in omega arith)
+    (λ c. let h = c .before .before .before .before .loop-test .taken in let k = dfs-short t (c .before .before .before .before .before .before .before .before .before .before .before .before .before .before .before .before .before .before .before .before .before .before .before .before .before) in search needs)
+    (λ c. let h = c .before .before .before .before .loop-test .taken in omega arith)
     (dfs-loop-again t)
-    (dfs-returns-3 t)
+    (dfs-returns-4 t)

@@ -1,5 +1,5 @@
 -- The recursion passes over needless gates; from nothing held that loses nothing, so what is found is the first of all lists.
-use mathlib.Core.Path.{ap, _∙_}
+use mathlib.Core.Path.{sym, ap, _∙_, subst}
 use mathlib.Core.List.{[]}
 use Prim.Native.Nat.{ℕ}
 use mathlib.Core.Option.{Option}
@@ -9,14 +9,14 @@ use lib.ListN.{take}
 use Rattle.choice.specs.Choices.{Choice}
 use Rattle.choice.specs.Inner.{view}
 use Rattle.pruned.specs.Pruned.{triedUnder}
-use Rattle.node.specs.States.{needless}
+use Rattle.node.specs.States.{needless, Exact}
 use Rattle.node.proofs.Forms.{nothing-lost}
 use Rattle.walk.proofs.run.Statement.{statement}
 use Rattle.walk.proofs.run.Tie as tie
 
 dfs-requires : tie.Need-dfs-requires
 dfs-requires c κs =
-    let s = c .before .before .before .before .before .before in
+    let s = c .before .before .before .before .before .before .before in
     let r = s .pre .1 .0 in
     let e = c .before .root .ensures .0 in
     let z = e .0 in
@@ -25,11 +25,12 @@ dfs-requires c κs =
 
 returns : tie.Need-returns
 returns c =
-    let s = c .before .before .before .before .before .before .before in
+    let s = c .before .before .before .before .before .before .before .before in
     let a = s .args in
     let root = c .before .before .root in (
-      (λ P posed bounded.
+      (λ P posed bounded exact.
           c .dfs .ensures .0 P posed bounded (root .ensures .1 P (bounded .needed))
+          (subst (λ (n : ℕ). Exact P (a .task .«cost_limit») (take n (root .result .path)) (a .most) (a .sums .now)) (sym (root .ensures .0 .0)) exact)
           ∙ ap (λ (n : ℕ). triedUnder needless P (a .task .«cost_limit») (take n (root .result .path)) (a .most) (view (c .before .nothing .result))) (root .ensures .0 .0)
           ∙ ap (λ (x : Option Choice). triedUnder needless P (a .task .«cost_limit») [] (a .most) x) (c .before .nothing .ensures .0)
           ∙ nothing-lost P (a .task) (posed .asks) (a .task .«cost_limit») (a .most)),
@@ -37,4 +38,4 @@ returns c =
     )
 
 pub run-spec : {M : Type 1} → statement M
-run-spec = tie.close (tie.spec (λ c κs. let few = c .before .before .before .before .pre .1 .0 .few in search needs) (λ c κs. search needs) dfs-requires returns)
+run-spec = tie.close (tie.spec (λ c κs. let few = c .before .before .before .before .before .pre .1 .0 .few in search needs) (λ c κs. search needs) dfs-requires returns)

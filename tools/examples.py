@@ -10,6 +10,8 @@ import os
 
 import batch_vectors
 import jobs
+import library_vectors
+import price_vectors
 import reference
 
 GIFT = [int(digit, 16) for digit in "1A4C6F392DB7508E"]
@@ -53,7 +55,8 @@ MEANINGS = {14: "no circuit within the limits realizes the table",
             15: "the job allows the plain layout only",
             16: "the circuit does not realize the table",
             26: "the batch is not up to 64 whole records of 20 or 28 bytes",
-            31: "the circuit has a gate that is not in the library"}
+            31: "the circuit has a gate that is not in the library",
+            38: "the jobs differ in more than one price, or limit the cost"}
 
 # a device of three wires in a line: each wire has a NOT, and neighbours a CNOT either way
 LINE = [0x00, 0x02, 0x20, 0x21, 0x24, 0x40, 0x42]
@@ -128,6 +131,24 @@ def line(record):
     return "refused %d\n" % code if code else finding(record).splitlines()[0] + "\n"
 
 
+def change(old, new):
+    """What a comparison prints: the difference of the least costs and both lines, or a refusal."""
+    code = reference.check_job(old) or reference.check_job(new) or (0 if price_vectors.comparable(old, new) else 38)
+    if code:
+        return refusal(code)
+    found = [reference.search_with_call(record, library_vectors.full(record), 15) for record in (old, new)]
+    if any(code for code, _ in found):
+        return refusal(14)
+    printed, costs = "", []
+    for record, (_, circuit) in zip((old, new), found):
+        asked = reference.read_job(record)
+        measures = reference.measures_of(reference.read_circuit(circuit).gates, asked.prices, asked.durations)
+        costs.append(measures[1])
+        printed += "found {} {} {} {}\n".format(*measures, circuit.hex().upper())
+    difference = costs[1] - costs[0]
+    return "by %s\n" % ("%+d" % difference if difference else "0") + printed
+
+
 def put(folder, name, content):
     os.makedirs(folder, exist_ok=True)
     mode = "wb" if isinstance(content, bytes) else "w"
@@ -151,6 +172,7 @@ def main():
     }
     far = files["across.job"]
     files["morning.batch"] = far + jobs.job(jobs.after([0x25, 0x0A], 4), 2) + far[:1] + b"\x0d" + far[2:] + jobs.job(across, 0) + far
+    files["cnot1.job"], files["cnot5.job"] = (jobs.job(jobs.after([0x21], 3), 4, prices=(0, price, 1)) for price in (1, 5))
     files["cut.batch"] = files["morning.batch"][:-1]
     records = {
         "gift.circuit": files["gift.circuit"],
@@ -169,6 +191,8 @@ def main():
         "gazbolk_none": ("search", "across3.job", "line.library"),
         "gazbolk_batch": ("batch", "morning.batch"),
         "gazbolk_cut": ("batch", "cut.batch"),
+        "gazbolk_compare": ("compare", "cnot1.job", "cnot5.job"),
+        "gazbolk_unlike": ("compare", "across.job", "across3.job"),
     }
     for crate, (command, *names) in runs.items():
         folder = os.path.join("crates", crate)
@@ -176,7 +200,7 @@ def main():
             put(os.path.join(folder, "data"), name, files[name])
         put(folder, "args", "\n".join([command, *names]) + "\n")
         contents = [records.get(name, files[name]) for name in names]
-        put(folder, "stdout", {"verify": verdict, "search": finding, "batch": lines}[command](*contents))
+        put(folder, "stdout", {"verify": verdict, "search": finding, "batch": lines, "compare": change}[command](*contents))
     for asked in ("gift.job", "example4.job"):
         for given in records:
             print(asked, given, verdict(files[asked], records[given]).replace("\n", " "))

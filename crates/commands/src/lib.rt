@@ -26,6 +26,10 @@ fn dispatch(word: &[u8], words: usize) {
         batch();
         return;
     }
+    if is_asked(word, b"compare", words, 4, 4) {
+        compare();
+        return;
+    }
     usage();
 }
 
@@ -51,6 +55,11 @@ fn usage() {
     say(b"    to 64 job records of 20 or 28 bytes, back to back.\n");
     say(b"    Prints for each job, in order and as soon as it is known, `found GATES COST\n");
     say(b"    DEPTH RECORD` or `refused NUMBER`.\n");
+    say(b"\ncompare OLD NEW\n");
+    say(b"    Compares two jobs that are alike but for one price. OLD and NEW name the files of\n");
+    say(b"    two job records with no limit on cost.\n");
+    say(b"    Prints `by DIFFERENCE`, the new least cost less the old, and both jobs' lines; or\n");
+    say(b"    `refused NUMBER` and what it means.\n");
     say(b"\nA file that cannot be read gets the line `unreadable NAME`.\n");
 }
 
@@ -82,6 +91,15 @@ fn batch() {
     let file = open(2);
     if file >= 0 {
         print_batch(file);
+    }
+}
+
+// `gazbolk compare OLD NEW`
+fn compare() {
+    let old = open(2);
+    let new = open(3);
+    if all_open(old, new, 0) {
+        print_change(old, new);
     }
 }
 
@@ -175,5 +193,16 @@ fn print_part(jobs: &[u8], i: usize)
 {
     let mut out = [0u8; 128];
     let size = files::batch_part(jobs, i, &mut out);
+    say(&out[..size]);
+}
+
+// Compares the jobs in two open files, and prints what that comes to. As much of each is read as tells it.
+fn print_change(old_file: i32, new_file: i32) {
+    let mut old = io::buffer();
+    let n = read_part(true, old_file, compare::job_room(), &mut old);
+    let mut new = io::buffer();
+    let m = read_part(true, new_file, compare::job_room(), &mut new);
+    let mut out = [0u8; 256];
+    let size = compare::compare_text(&old[..n], &new[..m], &mut out);
     say(&out[..size]);
 }

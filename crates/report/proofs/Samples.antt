@@ -28,6 +28,10 @@ pub uncut-sample : refusedText 26 ≡ bytes "refused 26\nthe batch is not up to 
 unfolding refusedText refusedLine decimal place said meaning circuitMeaning verifyMeaning libraryMeaning otherMeaning
 uncut-sample = refl
 
+pub unlike-sample : refusedText 38 ≡ bytes "refused 38\nthe jobs differ in more than one price, or limit the cost\n"
+unfolding refusedText refusedLine decimal place said meaning circuitMeaning verifyMeaning libraryMeaning otherMeaning
+unlike-sample = refl
+
 -- 11 is reserved and never comes up
 pub unused-sample : refusedText 11 ≡ bytes "refused 11\nno rule has this number\n"
 unfolding refusedText refusedLine decimal place said meaning circuitMeaning verifyMeaning libraryMeaning otherMeaning

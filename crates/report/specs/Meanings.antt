@@ -58,6 +58,7 @@ otherMeanings =
     ∷ (23 means "the text has more than 12 gates")
     ∷ (26 means "the batch is not up to 64 whole records of 20 or 28 bytes")
     ∷ (27 means "the answers or the statuses have too few bytes")
+    ∷ (38 means "the jobs differ in more than one price, or limit the cost")
     ∷ []
 
 -- what a list says of a number, and else what the rest says

@@ -27,6 +27,11 @@ fn put_other_meaning(out: &mut [u8], i: usize, code: u8) -> usize
             b"the batch is not up to 64 whole records of 20 or 28 bytes",
         ),
         27 => put_text(out, i, b"the answers or the statuses have too few bytes"),
+        38 => put_text(
+            out,
+            i,
+            b"the jobs differ in more than one price, or limit the cost",
+        ),
         _ => put_text(out, i, b"no rule has this number"),
     }
 }

@@ -5,6 +5,7 @@ use libc::STDOUT_FILENO;
 use parity::TableParity;
 use record::Checked;
 use search::Searched;
+use sensitivity::Change;
 use verify::Measured;
 use verify::Measures;
 use verify::Ran;
@@ -27,6 +28,7 @@ fn main() {
     run_file(b"lines");
     run_file(b"library");
     run_file(b"batches");
+    run_file(b"prices");
 }
 
 fn say(text: &[u8]) {
@@ -112,11 +114,13 @@ fn is_name(letter: u8, name: &[u8]) -> bool {
         b'a' => same(name, b"among"),
         b'w' => same(name, b"with"),
         b't' => same(name, b"together"),
+        b'd' => same(name, b"difference"),
+        b'g' => same(name, b"gap"),
         _ => false,
     }
 }
 
-// What stands after the first word: a byte for a run and a search, a record, a library or a length for five calls, nothing for the others.
+// What stands after the first word: a byte for a run and a search, a record, a library or a length for seven calls, nothing for the others.
 fn second_ok(letter: u8, rest: &[u8]) -> bool {
     match letter {
         b'f' => is_byte(rest),
@@ -127,6 +131,8 @@ fn second_ok(letter: u8, rest: &[u8]) -> bool {
         b'a' => is_word(rest),
         b'w' => is_word(rest),
         b't' => is_word(rest),
+        b'd' => is_word(rest),
+        b'g' => is_word(rest),
         _ => rest.len() == 0,
     }
 }
@@ -226,6 +232,8 @@ fn dispatch(letter: u8, first: &[u8], second: &[u8], third: &[u8]) {
         b'a' => say_search(first, second, true, logic::at(third, 0)),
         b'w' => say_measured(library::verify_with(first, second, third)),
         b't' => say_batch(first, second, logic::at(third, 0)),
+        b'd' => say_change(sensitivity::price_change(first, second)),
+        b'g' => say_difference(sensitivity::cost_difference(cost_in(first), cost_in(second))),
         _ => say(b"unknown"),
     }
 }
@@ -335,6 +343,26 @@ fn say_measures(m: Measures) {
 fn say_time(time: u16) {
     say(b" ");
     io::print_decimal(STDOUT_FILENO, time as u64);
+}
+
+fn say_change(answer: Change) {
+    match answer {
+        Change::Refused(code) => say_refused(code),
+        Change::By(difference) => say_difference(difference),
+    }
+}
+
+fn say_difference(difference: i32) {
+    say(b"by ");
+    if sensitivity::is_negative(difference) {
+        say(b"-");
+    }
+    io::print_decimal(STDOUT_FILENO, sensitivity::distance(difference) as u64);
+}
+
+// The cost in the first two bytes, high byte first.
+fn cost_in(bytes: &[u8]) -> u16 {
+    logic::at(bytes, 0) as u16 * 256 + logic::at(bytes, 1) as u16
 }
 
 fn say_parity(answer: TableParity) {

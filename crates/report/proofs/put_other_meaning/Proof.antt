@@ -37,22 +37,27 @@ returns-7 c = let p = c .before .before in rw (p .before .before .before .match 
 
 returns-8 : tie.Need-returns-8
 unfolding said otherMeaning
-returns-8 c =
+returns-8 c = let p = c .before .before in rw (p .before .before .before .match .keys8) (p .put-text8 .ensures)
+
+returns-9 : tie.Need-returns-9
+unfolding said otherMeaning
+returns-9 c =
     let p = c .before .before in
     let m = p .before .before .before in
     let x = m .before .before .args .code in
     let r = m .match .rest in
     rw (
-      ne-eqb x 13 (r .0 .0 .0 .0 .0 .0 .1),
-      ne-eqb x 14 (r .0 .0 .0 .0 .0 .1),
-      ne-eqb x 20 (r .0 .0 .0 .0 .1),
-      ne-eqb x 22 (r .0 .0 .0 .1),
-      ne-eqb x 23 (r .0 .0 .1),
-      ne-eqb x 26 (r .0 .1),
-      ne-eqb x 27 (r .1),
+      ne-eqb x 13 (r .0 .0 .0 .0 .0 .0 .0 .1),
+      ne-eqb x 14 (r .0 .0 .0 .0 .0 .0 .1),
+      ne-eqb x 20 (r .0 .0 .0 .0 .0 .1),
+      ne-eqb x 22 (r .0 .0 .0 .0 .1),
+      ne-eqb x 23 (r .0 .0 .0 .1),
+      ne-eqb x 26 (r .0 .0 .1),
+      ne-eqb x 27 (r .0 .1),
+      ne-eqb x 38 (r .1),
     )
-    (p .put-text8 .ensures)
+    (p .put-text9 .ensures)
 
 pub put-other-meaning-spec : {M : Type 1} → statement M
 put-other-meaning-spec =
-    tie.close (tie.spec (λ c. refl) (λ c κs. omega arith) (λ c. refl) (λ c κs. omega arith) (λ c. refl) (λ c κs. omega arith) (λ c. refl) (λ c κs. omega arith) (λ c. refl) (λ c κs. omega arith) (λ c. refl) (λ c κs. omega arith) (λ c. refl) (λ c κs. omega arith) (λ c. refl) (λ c κs. omega arith) (λ c. search needs) returns (λ c. search needs) returns-2 (λ c. search needs) returns-3 (λ c. search needs) returns-4 (λ c. search needs) returns-5 (λ c. search needs) returns-6 (λ c. search needs) returns-7 (λ c. search needs) returns-8)
+    tie.close (tie.spec (λ c. refl) (λ c κs. omega arith) (λ c. refl) (λ c κs. omega arith) (λ c. refl) (λ c κs. omega arith) (λ c. refl) (λ c κs. omega arith) (λ c. refl) (λ c κs. omega arith) (λ c. refl) (λ c κs. omega arith) (λ c. refl) (λ c κs. omega arith) (λ c. refl) (λ c κs. omega arith) (λ c. refl) (λ c κs. omega arith) (λ c. search needs) returns (λ c. search needs) returns-2 (λ c. search needs) returns-3 (λ c. search needs) returns-4 (λ c. search needs) returns-5 (λ c. search needs) returns-6 (λ c. search needs) returns-7 (λ c. search needs) returns-8 (λ c. search needs) returns-9)

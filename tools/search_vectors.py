@@ -12,7 +12,7 @@ and are echoed.
 Expected values come from bench/brute.rs (every list of gates, every layout; no skipping), or
 where that takes too long from document 01's theorem on odd tables over four wires, or from
 bench/plain.rs; each call's source is counted on standard error. Both are compiled with
-`rustc -O` into a temporary folder.
+`rustc -O` into a temporary folder. inverse_vectors.py adds its pairs at the end of DATA_FILE, and is run after this.
 """
 import argparse
 import os

@@ -557,14 +557,12 @@ fn solve_bounds<const N: usize, const FREE: bool, const K: usize>(job: &Job) -> 
 
 // ---------------------------------------------------------------------------- reach filters
 
-/// B4 and B5: lossy sets of the states within `radius` gates of the target, whole, without
-/// one wire and without two. Only fully wanted rows enter the hash.
+/// B4 and B5: a lossy set of the states within `radius` gates of the target, whole, without
+/// one wire and without two. Only fully wanted rows enter the hash. A state is two bits of one
+/// word, and the set is as large as that of the proved program.
 struct Reach {
     radius: usize,
-    shift: u32,
-    whole: Vec<u64>,
-    less_one: Vec<u64>,
-    less_two: Vec<u64>,
+    set: Vec<u64>,
 }
 
 /// A data wire's share of the hash; wires are alike when the layout is free.
@@ -577,39 +575,45 @@ fn share<const FREE: bool>(wire: usize, column: u16) -> u64 {
 
 impl Reach {
     fn new(radius: usize) -> Reach {
-        let bits = if radius <= 4 { 22 } else { 25 };
-        let set = || vec![0u64; 1 << (bits - 6)];
-        Reach { radius, shift: 64 - bits, whole: set(), less_one: set(), less_two: set() }
+        Reach { radius, set: vec![0; if radius <= 4 { 1 << 18 } else { 3 << 18 }] }
+    }
+
+    /// The word of a hash and its two bits in it.
+    #[inline(always)]
+    fn place(&self, hash: u64) -> (usize, u64) {
+        let x = (hash.wrapping_mul(0x94D0_49BB_1331_11EB) >> 32) * (self.set.len() as u64 * 64);
+        ((x >> 38) as usize, 1 << (x >> 32 & 63) | 1 << (x >> 26 & 63))
     }
 
     #[inline(always)]
-    fn add(shift: u32, set: &mut [u64], hash: u64) {
-        let ix = hash.wrapping_mul(0x94D0_49BB_1331_11EB) >> shift;
-        set[ix as usize >> 6] |= 1 << (ix & 63);
+    fn add(&mut self, hash: u64) {
+        let (word, bits) = self.place(hash);
+        self.set[word] |= bits;
     }
 
     #[inline(always)]
-    fn has(&self, set: &[u64], hash: u64) -> bool {
-        let ix = hash.wrapping_mul(0x94D0_49BB_1331_11EB) >> self.shift;
-        set[ix as usize >> 6] >> (ix & 63) & 1 == 1
+    fn has(&self, hash: u64) -> bool {
+        let (word, bits) = self.place(hash);
+        self.set[word] & bits == bits
     }
 
-    fn fill<const N: usize, const FREE: bool, const K: usize>(&mut self, gates: &[Gate], columns: &Columns, k: usize) {
+    /// What leaves out wire `but`, the last gate's target, is in already.
+    fn fill<const N: usize, const FREE: bool, const K: usize>(&mut self, gates: &[Gate], columns: &Columns, but: usize, k: usize) {
         let shares: [u64; N] = std::array::from_fn(|i| share::<FREE>(i, columns[i]));
         let hash = shares.iter().fold(0u64, |h, s| h.wrapping_add(*s));
-        Reach::add(self.shift, &mut self.whole, hash);
-        for t in 0..N {
+        self.add(hash);
+        for t in (0..N).filter(|&t| t != but) {
             let less = hash.wrapping_sub(shares[t]);
-            Reach::add(self.shift, &mut self.less_one, less);
-            for u in 0..t {
-                Reach::add(self.shift, &mut self.less_two, less.wrapping_sub(shares[u]));
+            self.add(less);
+            for u in (0..t).filter(|&u| u != but) {
+                self.add(less.wrapping_sub(shares[u]));
             }
         }
         if k > 0 {
             for gate in gates {
                 let mut next = *columns;
                 next[gate.target & 7] ^= product::<K>(columns, gate);
-                self.fill::<N, FREE, K>(gates, &next, k - 1);
+                self.fill::<N, FREE, K>(gates, &next, gate.target, k - 1);
             }
         }
     }
@@ -738,12 +742,12 @@ impl Max<'_> {
             if node.r - 1 <= reach.radius + 1 {
                 for t in (0..N).filter(|t| node.targets >> t & 1 == 1) {
                     let less = hash.wrapping_sub(shares[t]);
-                    let own = reach.has(&reach.less_one, less);
+                    let own = reach.has(less);
                     let mut set = (own as u8) << t;
                     if !near {
                         for u in (0..N).filter(|&u| u != t) {
                             let pair = less.wrapping_sub(shares[u]);
-                            set |= (reach.has(&reach.less_two, pair) as u8) << u;
+                            set |= (reach.has(pair) as u8) << u;
                         }
                         next_targets[t] = set;
                     }
@@ -786,7 +790,7 @@ impl Max<'_> {
                 let hash = hash
                     .wrapping_sub(share::<FREE>(t, s.columns[t] & rows))
                     .wrapping_add(share::<FREE>(t, child.columns[t] & rows));
-                if !reach.has(&reach.whole, hash) {
+                if !reach.has(hash) {
                     continue;
                 }
             }
@@ -820,7 +824,7 @@ impl Max<'_> {
                 let [a, b, c, d] = self.job.target;
                 let target = [a, b, c, d, 0, 0xFFFF, 0, 0].map(|column| column & self.job.full_rows);
                 let mut reach = Reach::new(radius);
-                reach.fill::<N, FREE, K>(&self.job.gates, &target, radius);
+                reach.fill::<N, FREE, K>(&self.job.gates, &target, N, radius);
                 self.reach = Some(reach);
             }
         }

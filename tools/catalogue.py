@@ -1,18 +1,21 @@
 """Writes a page of facts from what the proved program prints: the cheapest circuits of the S-boxes in 002 and 003.
 
-usage: python3 tools/catalogue.py BIN_FOLDER OUT [--cap SECONDS] [--only NAME]
+usage: python3 tools/catalogue.py BIN_FOLDER OUT [--cap SECONDS] [--ancilla-cap SECONDS] [--only NAME]
 
 BIN_FOLDER has `main` and `gazbolk` (target/bin), OUT is the page (docs/CATALOGUE.md). Each job is searched with
 `gazbolk search`, each circuit found is checked with `gazbolk verify`, and the command that the page gives for a
 row is run as well where the search took at most AGAIN seconds. Anything unexpected ends the script with an error.
-A search longer than --cap seconds (default 600) is ended, and the page says so. --only NAME takes one S-box, by its
-name in jobs.py, or one group of GROUPS below; it may be given several times.
+A search of more than --cap processor seconds (default 600), with an ancilla --ancilla-cap (default 240), is ended, and
+the page says so. --only NAME takes one S-box, by its name in jobs.py, or one group of GROUPS below; it may be given several
+times. The page is written again after each S-box, so that a run that is broken off leaves what it had.
 """
 
 import argparse
 import collections
 import os
 import re
+import resource
+import signal
 import subprocess
 import sys
 import tempfile
@@ -163,11 +166,12 @@ The cost, at each layout and price.
 """
 
 LATE = """\
-- **not answered** means that the program was ended after the time given, and nothing is known. In the overview it is a dash.
+- **not answered** means that the program was ended after the processor time given, and nothing is known. In the overview it is a dash.
 """
 
-# What a row says: "found", "none" or "late", and the measures and the record of what was found.
-Answer = collections.namedtuple("Answer", "word gates cost depth record", defaults=[None] * 4)
+# What a row says: "found", "none" or "late", the measures and the record of what was found, the seconds after which a
+# search was ended.
+Answer = collections.namedtuple("Answer", "word gates cost depth record cap", defaults=[None] * 5)
 Row = collections.namedtuple("Row", "m free prices job answer")
 # The names of an S-box, the digits of its table, its parity, and its rows.
 Entry = collections.namedtuple("Entry", "names digits parity rows")
@@ -176,8 +180,8 @@ Entry = collections.namedtuple("Entry", "names digits parity rows")
 class Program:
     """The proved program in BIN_FOLDER, and a folder for its files."""
 
-    def __init__(self, bin_folder, folder, cap):
-        self.folder, self.cap = folder, cap
+    def __init__(self, bin_folder, folder):
+        self.folder = folder
         self.gazbolk = os.path.join(os.path.abspath(bin_folder), "gazbolk")
         os.mkdir(os.path.join(folder, "target"))
         os.symlink(os.path.abspath(bin_folder), os.path.join(folder, "target", "bin"))
@@ -188,18 +192,27 @@ class Program:
             file.write(content)
         return path
 
-    def printed(self, command, cap=None):
-        run = subprocess.run(command, stdout=subprocess.PIPE, timeout=cap, check=True, cwd=self.folder)
+    def printed(self, command):
+        return subprocess.run(command, stdout=subprocess.PIPE, check=True, cwd=self.folder).stdout.decode()
+
+    def printed_within(self, command, cap):
+        """What a command prints, or None where it was ended after so much processor time."""
+        def limit():
+            resource.setrlimit(resource.RLIMIT_CPU, (cap, cap + 1))
+        run = subprocess.run(command, stdout=subprocess.PIPE, cwd=self.folder, preexec_fn=limit)
+        if run.returncode in (-signal.SIGXCPU, -signal.SIGKILL):
+            return None
+        run.check_returncode()
         return run.stdout.decode()
 
-    def search(self, job):
+    def search(self, job, cap):
         """The answer to a job, checked by `verify` and by the row's own command."""
         path = self.put("job", job)
         start = time.monotonic()
-        try:
-            line = self.printed([self.gazbolk, "search", path], self.cap).split("\n")[0]
-        except subprocess.TimeoutExpired:
-            return Answer("late")
+        text = self.printed_within([self.gazbolk, "search", path], cap)
+        if text is None:
+            return Answer("late", cap=cap)
+        line = text.split("\n")[0]
         quick = time.monotonic() - start <= AGAIN
         if quick and self.printed(["bash", "-c", command_of(job)]).strip() != line:
             sys.exit(f"{command_of(job)} does not print {line}")
@@ -236,7 +249,7 @@ def combinations(names, odd, group):
     return [(0, *pair) for pair in every] + [(1, *pair) for pair in with_ancilla]
 
 
-def entry_of(program, names, digits, group):
+def entry_of(program, names, digits, group, caps):
     values = jobs.sbox(names[0])
     parity = reference.parity_call(jobs.job(values, LIMIT))[1]
     odd = len(values) == 16 and parity == "odd"
@@ -244,7 +257,7 @@ def entry_of(program, names, digits, group):
     for m, free, prices in combinations(names, odd, group):
         job = jobs.job(values, LIMIT, m=m, free=free, prices=prices, durations=DURATIONS)
         start = time.monotonic()
-        answer = program.search(job)
+        answer = program.search(job, caps[m])
         if odd and m == 0 and answer.word != "none":
             sys.exit(f"{names[0]}: an odd table, and yet {answer}")
         rows.append(Row(m, free, prices, job, answer))
@@ -284,7 +297,7 @@ def price_text(prices):
     return ",".join(map(str, prices))
 
 
-def row_line(number, entry, row, letters, cap):
+def row_line(number, entry, row, letters):
     answer = row.answer
     head = [str(number)] + [str(row.m)] * has_ancilla(entry) + [LAYOUTS[row.free], price_text(row.prices)]
     if answer.word == "found":
@@ -293,7 +306,7 @@ def row_line(number, entry, row, letters, cap):
         text, theorem = ("none of any length", "odd-none") if never(entry, row) else (f"none within {LIMIT} gates", "none-is")
         tail = ["", "", "", text, theorem]
     else:
-        tail = ["", "", "", f"not answered within {cap:g} seconds", ""]
+        tail = ["", "", "", f"not answered within {answer.cap} seconds", ""]
     return "| " + " | ".join(head + tail) + " |"
 
 
@@ -355,7 +368,7 @@ def place_of(name):
     return f"003 Table {number or 'C1'}, {row}"
 
 
-def section(entry, cap):
+def section(entry):
     records = circuits_of(entry)
     letters = {record: "ABCDEFGHIJKL"[i] for i, record in enumerate(records)}
     places = "; ".join(f"{name}: {place_of(name)}" if len(entry.names) > 1 else place_of(name) for name in entry.names)
@@ -363,7 +376,7 @@ def section(entry, cap):
     column = "ancillas | " if has_ancilla(entry) else ""
     count = 8 + has_ancilla(entry)
     lines += [f"| row | {column}layout | prices | gates | cost | depth | circuit | theorem |", "|" + "---|" * count]
-    lines += [row_line(number, entry, row, letters, cap) for number, row in enumerate(entry.rows, 1)]
+    lines += [row_line(number, entry, row, letters) for number, row in enumerate(entry.rows, 1)]
     for record, numbers in records.items():
         lines += ["", f"{letters[record]}, `{record.hex().upper()}`, {listed(numbers)}:", "", "```text", *drawing(record), "```"]
     lines += ["", "The commands, by row:", "", "```bash"]
@@ -401,39 +414,42 @@ def wanted(only, group, names):
     return not only or group in only or any(name in only for name in names)
 
 
-def page(program, only):
-    groups = {}
-    for group, (_, tables, _) in GROUPS.items():
-        entries = [entry_of(program, names, digits, group) for digits, names in jobs.by_table(tables).items()
-                   if wanted(only, group, names)]
-        if entries:
-            groups[group] = entries
+def page(groups):
     late = sum(row.answer.word == "late" for entries in groups.values() for entry in entries for row in entry.rows)
-    print(f"{late} rows not answered", file=sys.stderr)
     head = HEAD.format(limit=LIMIT, durations=", ".join(map(str, DURATIONS)), again=AGAIN, late=LATE if late else "")
     lines = [head, *overview(groups)]
     for group, entries in groups.items():
         heading, _, note = GROUPS[group]
         lines += [f"## {heading}", "", note, ""]
         for entry in entries:
-            lines += section(entry, program.cap)
+            lines += section(entry)
     return "\n".join(lines).rstrip("\n") + "\n"
+
+
+def write_pages(program, only, caps, out):
+    """Searches for one S-box after the other, and writes the page after each."""
+    groups = {}
+    for group, (_, tables, _) in GROUPS.items():
+        for digits, names in jobs.by_table(tables).items():
+            if wanted(only, group, names):
+                groups.setdefault(group, []).append(entry_of(program, names, digits, group, caps))
+                with open(out, "w") as file:
+                    file.write(page(groups))
 
 
 def main():
     parser = argparse.ArgumentParser(description="Writes a page of facts from what the proved program prints.")
     parser.add_argument("bin_folder", help="the folder that has main and gazbolk")
     parser.add_argument("out", help="the page")
-    parser.add_argument("--cap", type=float, default=600, help="seconds for a job")
+    parser.add_argument("--cap", type=int, default=600, help="processor seconds for a job without an ancilla")
+    parser.add_argument("--ancilla-cap", type=int, default=240, help="processor seconds for a job with one")
     parser.add_argument("--only", action="append", default=[], help="an S-box, or a group: " + ", ".join(GROUPS))
     args = parser.parse_args()
     unknown = [name for name in args.only if name not in GROUPS and name not in jobs.TABLES]
     if unknown:
         sys.exit(f"no S-box or group of this name: {', '.join(unknown)}")
     with tempfile.TemporaryDirectory() as folder:
-        text = page(Program(args.bin_folder, folder, args.cap), args.only)
-    with open(args.out, "w") as file:
-        file.write(text)
+        write_pages(Program(args.bin_folder, folder), args.only, (args.cap, args.ancilla_cap), args.out)
 
 
 if __name__ == "__main__":

@@ -22,9 +22,10 @@ use Rattle.columns.specs.declared.Wanted.{Wanted}
 use Rattle.columns.specs.Wanted.{startColumns}
 use Rattle.columns.specs.Finish.{Finish}
 use Rattle.outputs.proofs.Few.{finish-next, first-lawful}
-use Rattle.filters.specs.declared.Reach.{Reach}
-use Rattle.filters.specs.Reach.{without, shareOf, shareAt, sharesOf, partOf, held, Seen, Sieve, openOn}
-use Rattle.filters.proofs.Sums.{sum-same, part-swap}
+use Rattle.reach.specs.declared.Reach.{Reach}
+use Rattle.reach.specs.Reach.{without, shareOf, shareAt, sharesOf, partOf, keyOf, litAt, held, Seen, SeenWithout, openOn}
+use Rattle.filters.specs.Sieve.{Sieve}
+use Rattle.reach.proofs.Sums.{sum-same, part-swap}
 use Rattle.filters.proofs.Sieves.{kept-column, shares-at}
 
 same-share : (r : Reach) (g : ℕ) (cs : List ℕ) (w : ℕ) → w < 5 → (w ≡ targetOf g → ⊥) → getD (sharesOf r (columnStep (gateOf g) cs)) w 0 ≡ getD (sharesOf r cs) w 0
@@ -49,6 +50,10 @@ part-kept r g cs b =
     by-wire : (w : ℕ) → w < 5 → Dec (w ≡ t) → without t (without b (λ v. getD (sharesOf r next) v 0)) w ≡ without t (without b (λ v. getD (sharesOf r cs) v 0)) w
     by-wire w l (yes e) = rw (eq-eqb w t e)
     by-wire w l (no d) = ap (λ (x : ℕ). pick (eqb w t) 0 (pick (eqb w b) 0 x)) (same-share r g cs w l d)
+
+-- so what leaves a gate's target out is in already
+pub seen-next : (bits : List ℕ) (r : Reach) (g : ℕ) (cs : List ℕ) → Seen bits r cs → SeenWithout (targetOf g) bits r (columnStep (gateOf g) cs)
+seen-next bits r g cs seen b = ap (λ (h : ℕ). litAt bits (keyOf (r .size) h)) (part-kept r g cs b) ∙ seen (targetOf g) b
 
 -- without both targets, so do two gates
 part-kept-two : (r : Reach) (g h : ℕ) (cs : List ℕ)

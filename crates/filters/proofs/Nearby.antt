@@ -9,7 +9,7 @@ use Rattle.logic.proofs.Members.{place-of, among-head, among-tail}
 use Rattle.gate.specs.Gates.{gateOf}
 use Rattle.gate.specs.Inner.{columnStep}
 use Rattle.circuit.specs.Inner.{columnsOver}
-use Rattle.filters.specs.Reach.{Near}
+use Rattle.filters.specs.Sieve.{Near}
 
 module _ (P : List ℕ → Type 0) (gates : List ℕ) where
   pub near-none : (cs : List ℕ) (k : ℕ) → k ≡ 0 → P cs → Near P gates cs k

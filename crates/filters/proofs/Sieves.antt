@@ -34,19 +34,18 @@ use Rattle.columns.specs.Finish.{Finish}
 use Rattle.span.specs.Span.{fullRows}
 use Rattle.span.proofs.Fewest.{fits-rows}
 use Rattle.outputs.proofs.Few.{finish-next}
-use Rattle.filters.specs.declared.Reach.{Reach}
-use Rattle.filters.specs.Reach.{sumBelow, without, shareOf, shareAt, sharesOf, partOf, keyOf, held, Seen, Near, rowsOf, aimAt, aimOf, wireAt, mirrors, litAt, Sound, Sieve, emptied}
-use Rattle.filters.proofs.Sums.{sum-same, sum-order, part-swap}
+use Rattle.reach.specs.declared.Reach.{Reach}
+use Rattle.reach.specs.Reach.{sumBelow, without, shareOf, shareAt, sharesOf, partOf, keyOf, held, Seen, litAt}
+use Rattle.mirrors.specs.Mirrors.{wireAt, mirrors}
+use Rattle.filters.specs.Sieve.{Near, rowsOf, aimAt, aimOf, Sound, Sieve, emptied}
+use Rattle.reach.proofs.Sums.{sum-same, sum-order, part-swap}
 use Rattle.filters.proofs.Nearby.{near-here, near-start}
-use Rattle.filters.proofs.Turn.{turn-inside, turn-once, turn-onto, Alike, alike-step}
+use Rattle.mirrors.proofs.Turn.{width-le, turn-inside, turn-once, turn-onto, Alike, alike-step}
 
 back-length : (e cs : List ℕ) → length (back columnsOver e cs) ≡ length cs
 unfolding back
 back-length [] cs = refl
 back-length (g ∷ e) cs = length-step (gateOf g) (back columnsOver e cs) ∙ back-length e cs
-
-pub width-le : (n : ℕ) → Width n → n ≤ 4
-width-le n width = ⊎-elim (λ e. omega arith) (λ e. omega arith) width
 
 -- columns that agree in each row of a set are the same on it
 module _ (rows : ℕ) where
@@ -256,7 +255,7 @@ sieve-of bits gates r k t n free sound rows near = record {
 
 lit-none : (k : ℕ) → litAt [] k ≡ true
 unfolding litAt
-lit-none k = rw (le-leb 0 (k / 64) (omega arith))
+lit-none k = rw (le-leb 0 (k / 4096) (omega arith))
 
 -- no bits at all rule nothing out
 pub no-sieve : (gates : List ℕ) (r : Reach) (k : ℕ) (t : Wanted) (n free : ℕ) → Sieve [] r gates k t n free

@@ -36,8 +36,9 @@ use Rattle.outputs.specs.Owed.{lost, worth, stuck}
 use Rattle.outputs.proofs.Few.{lost-few, finish-next}
 use Rattle.outputs.proofs.Skips.{worth-not}
 use Rattle.outputs.proofs.Unfinished.{stuck-none}
-use Rattle.filters.specs.declared.Reach.{Reach}
-use Rattle.filters.specs.Reach.{sharesOf, held, openOn, Sieve}
+use Rattle.reach.specs.declared.Reach.{Reach}
+use Rattle.reach.specs.Reach.{sharesOf, held, openOn}
+use Rattle.filters.specs.Sieve.{Sieve}
 use Rattle.filters.proofs.Cuts.{open-first, next-seen}
 use Rattle.node.specs.declared.Task.{Task}
 use Rattle.node.specs.declared.Least.{Least}

@@ -20,8 +20,8 @@ use Rattle.masks.specs.Words.{masksAfter}
 use Rattle.budget.specs.Heavy.{heavies}
 use Rattle.budget.specs.Afford.{CostsAtLeast}
 use Rattle.outputs.specs.Owed.{Controls}
-use Rattle.filters.specs.declared.Reach.{Reach}
-use Rattle.filters.specs.Reach.{Sieve}
+use Rattle.reach.specs.declared.Reach.{Reach}
+use Rattle.filters.specs.Sieve.{Sieve}
 use Rattle.node.specs.declared.Task.{Task}
 use Rattle.node.specs.declared.Least.{Least}
 use Rattle.node.specs.declared.Node.{Node}

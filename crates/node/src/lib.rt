@@ -2,9 +2,9 @@
 // contracts speak of every problem that the arguments pose.
 use choice::Best;
 use columns::Wanted;
-use filters::Reach;
 use masks::Masks;
 use plan::Plan;
+use reach::Reach;
 ghost use mathlib.Core.Path.{_≡_};
 ghost use mathlib.Core.Bool.{true, false};
 ghost use mathlib.Core.List.{List, [], _∷_, _++_, List·Memᴰ};
@@ -27,7 +27,7 @@ ghost use Rattle.problem.specs.Inner.{lookedUnder, Enough};
 ghost use Rattle.outputs.specs.Owed.{lost, worth, Controls};
 ghost use Rattle.products.specs.Products.{tableOf};
 ghost use Rattle.plan.specs.Plan.{planOf};
-ghost use Rattle.filters.specs.Reach.{Sieve};
+ghost use Rattle.filters.specs.Sieve.{Sieve};
 ghost use Rattle.node.specs.declared.Task.{Task};
 ghost use Rattle.node.specs.States.{listOf, Small, Fair, Needs, Asks, Bounded, At, Exact, Lists, Follows, needless, Passed};
 
@@ -270,7 +270,7 @@ pub fn eligible(
     requires { ⌜ (length (now table) ≡ 40) × ((targetOf g < 5) × Width n) ⌝ }
     ensures { λ r. ⌜ (r ≡ false → (k : ℕ) (t : Wanted) (cs : List ℕ) → Controls k → lawful k 5 g ≡ true → length cs ≡ 5 → now (table .entry) ≡ tableOf k t cs → plan ≡ planOf t cs n free → (bitOf (targetOf g) wires ≡ 0) ⊎ (worth t cs n free g most ≡ false)) ⌝ }
 {
-    if !filters::open(wires, g) {
+    if !reach::open(wires, g) {
         return false;
     }
     plan::worth(table, plan, n, free, g, most)
@@ -303,7 +303,7 @@ pub fn promising(
     let wanted = task.wanted;
     let columns = s.columns;
     let next = products::step(table, columns, entry.gate);
-    if !filters::near_enough(bits, reach, next, most - 1) {
+    if !reach::near_enough(bits, reach, next, most - 1) {
         return false;
     }
     if fixes::stuck(

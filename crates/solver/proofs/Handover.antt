@@ -10,12 +10,13 @@ use Rattle.choice.specs.Inner.{view}
 use Rattle.problem.specs.Problems.{Problem, firstGood}
 use Rattle.problem.specs.Inner.{Past}
 use Rattle.problem.proofs.Limits.{never}
-use Rattle.filters.specs.declared.Reach.{Reach}
-use Rattle.filters.specs.Reach.{Sieve}
+use Rattle.reach.specs.declared.Reach.{Reach}
+use Rattle.filters.specs.Sieve.{Sieve}
 use Rattle.node.specs.declared.Task.{Task}
 use Rattle.solver.specs.declared.Outcome.{Outcome}
 use Rattle.node.specs.States.{Slices, Supplied}
-use Rattle.solver.specs.States.{Deepened, Settled}
+use Rattle.deepening.specs.Deepening.{Deepened}
+use Rattle.solver.specs.States.{Settled}
 
 pub supplied : (gates prices durations : List ℕ) (task : Task) (bits : List ℕ) (reach : Reach) → Slices gates prices durations
     → Sieve bits reach gates (task .controls) (task .wanted) (task .outputs) (task .free) → Supplied gates prices durations task bits reach

@@ -1,9 +1,9 @@
 // The search for the first good choice of a problem: one walk after the other, by gates and by cost, with filters where they pay. It takes
 // slices of gates, prices and durations, and knows no job; its contracts speak of every problem that the arguments pose.
 use choice::Best;
-use filters::Reach;
 use node::Least;
 use node::Task;
+use reach::Reach;
 ghost use mathlib.Core.Path.{_≡_};
 ghost use mathlib.Core.Bool.{true, false};
 ghost use mathlib.Core.List.{List};
@@ -15,135 +15,11 @@ ghost use Rattle.choice.specs.Inner.{view};
 ghost use Rattle.problem.specs.Problems.{Problem, firstGood};
 ghost use Rattle.problem.specs.Inner.{Past, Shortest};
 ghost use Rattle.budget.specs.Sums.{Marked};
-ghost use Rattle.filters.specs.Reach.{Sieve};
+ghost use Rattle.filters.specs.Sieve.{Sieve};
 ghost use Rattle.node.specs.declared.Task.{Task};
 ghost use Rattle.node.specs.States.{Slices, Supplied, Fair, Ready, Posed, Limited, Bounded};
-ghost use Rattle.solver.specs.States.{Counted, Deepened, Priced, Settled, limitedTo};
-
-// Deepening on gates: one gate more until a search finds something. Sums are given where nothing good costs less than the task's limit.
-fn fewest(
-    gates: &[u8],
-    prices: &[u8],
-    durations: &[u8],
-    task: Task,
-    least: Least,
-    from: usize,
-    most: usize,
-    bits: &[u64],
-    reach: Reach,
-    sums: &[u8],
-) -> Best
-    requires { ⌜ Supplied (now gates) (now prices) (now durations) task (now bits) reach ⌝ }
-    requires { ⌜ Ready task least × ((from ≤ most) × (most ≤ 12)) ⌝ }
-    ensures { λ r. ⌜ ((P : Problem) → Posed P task (now (gates .entry)) (now (prices .entry)) (now (durations .entry)) → Bounded P least → task .«cost_limit» ≤ P .mostCost → most ≤ P .mostGates → Past P (task .«cost_limit») from → Counted P (task .«cost_limit») (now (sums .entry)) → Deepened P (task .«cost_limit») most r) ⌝ }
-    ensures { λ r. ⌜ r .len ≤ 12 ⌝ }
-{
-    let mut g = from;
-    while g < most {
-        let b = walk::run(gates, prices, durations, task, least, g, bits, reach, sums);
-        if b.found {
-            return b;
-        }
-        g += 1;
-    }
-    walk::run(gates, prices, durations, task, least, g, bits, reach, sums)
-}
-
-// The search at one cost, the task's limit: the counts of gates from `from` up to what the cost buys.
-fn at_cost(
-    gates: &[u8],
-    prices: &[u8],
-    durations: &[u8],
-    task: Task,
-    least: Least,
-    from: usize,
-    bits: &[u64],
-    reach: Reach,
-    sums: &[u8],
-) -> Best
-    requires { ⌜ Supplied (now gates) (now prices) (now durations) task (now bits) reach ⌝ }
-    requires { ⌜ Ready task least × (task .«gate_limit» ≤ 12) ⌝ }
-    ensures { λ r. ⌜ ((P : Problem) → Posed P task (now (gates .entry)) (now (prices .entry)) (now (durations .entry)) → Bounded P least → task .«cost_limit» ≤ P .mostCost → task .«gate_limit» ≡ P .mostGates → Past P (task .«cost_limit») from → Counted P (task .«cost_limit») (now (sums .entry)) → Priced P (task .«cost_limit») r) ⌝ }
-    ensures { λ r. ⌜ r .len ≤ 12 ⌝ }
-{
-    let most = budget::reach(
-        least.low,
-        least.extra,
-        least.needs,
-        task.cost_limit,
-        task.gate_limit,
-    );
-    if most < from {
-        return choice::nothing();
-    }
-    fewest(
-        gates,
-        prices,
-        durations,
-        task,
-        least,
-        from,
-        most,
-        bits,
-        reach,
-        sums,
-    )
-}
-
-fn limited_to(task: Task, limit: usize) -> Task
-    ensures { λ r. ⌜ r ≡ limitedTo task limit ⌝ }
-{
-    let wanted = task.wanted;
-    Task {
-        wanted,
-        outputs: task.outputs,
-        free: task.free,
-        controls: task.controls,
-        gate_limit: task.gate_limit,
-        cost_limit: limit,
-        depth_limit: task.depth_limit,
-    }
-}
-
-// Deepening on cost: the costs below that of what is held, rising. One that is no sum of prices ends at the root of each walk.
-fn cheaper(
-    gates: &[u8],
-    prices: &[u8],
-    durations: &[u8],
-    task: Task,
-    least: Least,
-    sums: &[u8],
-    held: Best,
-    bits: &[u64],
-    reach: Reach,
-) -> Best
-    requires { ⌜ Supplied (now gates) (now prices) (now durations) task (now bits) reach ⌝ }
-    requires { ⌜ Ready task least × (task .«gate_limit» ≤ 12) ⌝ }
-    requires { ⌜ Marked (now prices) (task .«gate_limit») (now sums) ⌝ }
-    requires { ⌜ (held .found ≡ true) × (held .len ≤ 12) ⌝ }
-    ensures { λ r. ⌜ ((P : Problem) → Posed P task (now (gates .entry)) (now (prices .entry)) (now (durations .entry)) → Bounded P least → Limited P task → Shortest P (P .mostCost) (view held) (held .len) → view r ≡ firstGood P) ⌝ }
-    ensures { λ r. ⌜ r .len ≤ 12 ⌝ }
-{
-    let mut c = 0;
-    while c < held.cost as usize {
-        let b = at_cost(
-            gates,
-            prices,
-            durations,
-            limited_to(task, c),
-            least,
-            held.len,
-            bits,
-            reach,
-            sums,
-        );
-        if b.found {
-            return b;
-        }
-        c += 1;
-    }
-    held
-}
+ghost use Rattle.deepening.specs.Deepening.{Counted, Deepened};
+ghost use Rattle.solver.specs.States.{Settled};
 
 // What every list of these gates has and costs at least.
 fn least_of(gates: &[u8], prices: &[u8], task: Task) -> Least
@@ -185,7 +61,7 @@ fn bid_with(
     ensures { λ r. ⌜ r .len ≤ 12 ⌝ }
 {
     budget::mark(prices, task.gate_limit, sums);
-    cheaper(
+    deepening::cheaper(
         gates,
         prices,
         durations,
@@ -300,7 +176,7 @@ fn go_on(
         return held;
     }
     let none = [0u8; 0];
-    fewest(
+    deepening::fewest(
         gates,
         prices,
         durations,
@@ -570,7 +446,7 @@ pub fn solve(gates: &[u8], prices: &[u8], durations: &[u8], task: Task) -> Best
     let reach = no_filter();
     let most = early(limit);
     let no_sums = [0u8; 0];
-    let held = fewest(
+    let held = deepening::fewest(
         gates,
         prices,
         durations,

@@ -1,10 +1,10 @@
 // The walk through all gate lists below a node, depth first, cutting only what cannot change the answer.
 use choice::Best;
-use filters::Reach;
 use node::Entry;
 use node::Least;
 use node::Node;
 use node::Task;
+use reach::Reach;
 ghost use mathlib.Core.Path.{_≡_};
 ghost use mathlib.Core.List.{[]};
 ghost use mathlib.Core.Option.{none};
@@ -54,7 +54,7 @@ fn dfs(
         return b;
     }
     let table = products::table_of(task.controls, wanted, columns);
-    let wires = filters::open_wires(bits, reach, columns, most - 1);
+    let wires = reach::open_wires(bits, reach, columns, most - 1);
     let mut i = 0;
     while i < gates.len() {
         let g = gates[i];

@@ -1,6 +1,6 @@
 use mathlib.Core.List.{[], _∷_}
 use borrow.Author.Needs.{needs}
-use Rattle.filters.specs.Reach.{aimOf}
+use Rattle.filters.specs.Sieve.{aimOf}
 use Rattle.filters.proofs.aim_of.Statement.{statement}
 use Rattle.filters.proofs.aim_of.Tie as tie
 

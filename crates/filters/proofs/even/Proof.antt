@@ -6,7 +6,7 @@ use native.Mathlib.Omega.{arith}
 use borrow.Author.Count.{below-more}
 use borrow.Author.Needs.{needs}
 use lib.ListN.{getD}
-use Rattle.filters.specs.Reach.{wireAt}
+use Rattle.mirrors.specs.Mirrors.{wireAt}
 use Rattle.filters.proofs.even.Statement.{statement}
 use Rattle.filters.proofs.even.Tie as tie
 

@@ -1,6 +1,6 @@
 use mathlib.Core.Path.{_≡_, sym}
 use borrow.Author.Needs.{needs}
-use Rattle.filters.specs.Reach.{emptied}
+use Rattle.filters.specs.Sieve.{emptied}
 use Rattle.filters.proofs.kept.Statement.{statement}
 use Rattle.filters.proofs.kept.Tie as tie
 

@@ -1,7 +1,7 @@
 use mathlib.Core.Path.{ap₂}
 use lib.Bits.{bitAnd}
 use borrow.Author.Needs.{needs}
-use Rattle.filters.specs.Reach.{rowsOf}
+use Rattle.filters.specs.Sieve.{rowsOf}
 use Rattle.filters.proofs.rows_of.Statement.{statement}
 use Rattle.filters.proofs.rows_of.Tie as tie
 

@@ -12,8 +12,9 @@ use Rattle.logic.proofs.Chain.{both-left, both-right}
 use Rattle.logic.proofs.Members.{place-of}
 use Rattle.gate.specs.Gates.{lawful}
 use Rattle.table.specs.Layouts.{layoutsFor}
-use Rattle.filters.specs.declared.Reach.{Reach}
-use Rattle.filters.specs.Reach.{wireAt, mirrors, Sound}
+use Rattle.reach.specs.declared.Reach.{Reach}
+use Rattle.mirrors.specs.Mirrors.{wireAt, mirrors}
+use Rattle.filters.specs.Sieve.{Sound}
 use Rattle.filters.proofs.sound.Statement.{statement}
 use Rattle.filters.proofs.sound.Tie as tie
 

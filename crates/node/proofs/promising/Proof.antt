@@ -13,7 +13,7 @@ use Rattle.choice.specs.Inner.{view}
 use Rattle.problem.proofs.Skips.{cut-depth}
 use Rattle.pruned.proofs.Walk.{by-skip, by-bound}
 use Rattle.outputs.specs.Owed.{stuck}
-use Rattle.filters.specs.Reach.{sharesOf, held}
+use Rattle.reach.specs.Reach.{sharesOf, held}
 use Rattle.node.specs.States.{listOf, needless}
 use Rattle.node.proofs.Nodes.{cost-snoc}
 use Rattle.node.proofs.Reaches.{unseen, stuck-after}

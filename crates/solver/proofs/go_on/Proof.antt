@@ -3,9 +3,9 @@ use Prim.Native.Nat.{ℕ}
 use native.Mathlib.Omega.{arith}
 use borrow.Author.Needs.{needs}
 use Rattle.problem.specs.Inner.{Past}
-use Rattle.solver.specs.States.{Deepened}
+use Rattle.deepening.specs.Deepening.{Deepened}
 use Rattle.solver.proofs.Handover.{deepened-held, past-from}
-use Rattle.solver.proofs.Searches.{no-sums}
+use Rattle.deepening.proofs.Searches.{no-sums}
 use Rattle.solver.proofs.go_on.Statement.{statement}
 use Rattle.solver.proofs.go_on.Tie as tie
 

@@ -5,7 +5,7 @@ use native.Mathlib.Omega.{arith}
 use Rattle.logic.specs.Lists.{along}
 use Rattle.logic.proofs.Members.{among-nil}
 use Rattle.node.proofs.Nodes.{needs-span}
-use Rattle.solver.proofs.Searches.{costs-of}
+use Rattle.deepening.proofs.Searches.{costs-of}
 use Rattle.solver.proofs.least_of.Statement.{statement}
 use Rattle.solver.proofs.least_of.Tie as tie
 

@@ -9,9 +9,10 @@ use Rattle.problem.specs.Problems.{Problem}
 use Rattle.problem.proofs.Limits.{past-none}
 use Rattle.filters.proofs.Sieves.{no-sieve}
 use Rattle.node.specs.States.{Posed, Limited, Bounded, Supplied}
-use Rattle.solver.specs.States.{Deepened, Settled}
+use Rattle.deepening.specs.Deepening.{Deepened}
+use Rattle.solver.specs.States.{Settled}
 use Rattle.solver.proofs.Handover.{supplied, deepened-held}
-use Rattle.solver.proofs.Searches.{no-sums}
+use Rattle.deepening.proofs.Searches.{no-sums}
 use Rattle.solver.proofs.solve.Statement.{statement}
 use Rattle.solver.proofs.solve.Tie as tie
 

@@ -27,7 +27,7 @@ use Rattle.pruned.proofs.Walk.{spared, by-entering, walk-stop, walk-turn, walk-
 use Rattle.outputs.specs.Owed.{lost}
 use Rattle.products.specs.Products.{tableOf}
 use Rattle.plan.specs.Plan.{planOf}
-use Rattle.filters.specs.Reach.{Sieve}
+use Rattle.filters.specs.Sieve.{Sieve}
 use Rattle.node.specs.declared.Task.{Task}
 use Rattle.node.specs.declared.Node.{Node}
 use Rattle.node.specs.declared.Entry.{Entry}
@@ -41,7 +41,7 @@ use Rattle.walk.proofs.+dfs.Lts-dfs as dfs-lts
 use Rattle.logic.proofs.either.Reads as either-reads
 use Rattle.plan.proofs.plan_of.Reads as plan-of-reads
 use Rattle.products.proofs.table_of.Reads as table-of-reads
-use Rattle.filters.proofs.open_wires.Reads as open-wires-reads
+use Rattle.reach.proofs.open_wires.Reads as open-wires-reads
 use Rattle.node.proofs.advance.Reads as advance-reads
 use Rattle.node.proofs.affordable.Reads as affordable-reads
 use Rattle.node.proofs.consider_met.Reads as consider-met-reads

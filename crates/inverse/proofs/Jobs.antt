@@ -29,7 +29,7 @@ use Rattle.inverse.proofs.Tables.{value-low, realized-is}
 
 module _ (job : List ℕ) (perm : Permutation job) where
   -- without an ancilla the data wires are all there are
-  bare-wires : wires job ≡ dataWires job
+  pub bare-wires : wires job ≡ dataWires job
   unfolding wires
   bare-wires = ap (λ (m : ℕ). dataWires job + m) (perm .bare) ∙ add-zero (dataWires job)
 

@@ -1,47 +1,38 @@
 -- The job of the inverse table: it is well-formed where the job is, and it is the job's inverse.
 use mathlib.Core.Path.{_≡_, refl, sym, ap, ap₂, _∙_, subst}
-use mathlib.Core.Bool.{Bool, true, false, false≢true, not}
+use mathlib.Core.Bool.{Bool, true, false, not}
 use mathlib.Core.Logic.{⊎-elim}
-use mathlib.Core.List.{List, [], _∷_, map, List·Memᴰ, Memᴰ·cast}
+use mathlib.Core.List.{List, map, List·Memᴰ, Memᴰ·cast}
 use Prim.Native.Nat.{ℕ, zero, suc, _+_, _-_, _*_, _/_, _%_, _^_, _≤_, _<_}
 use native.Mathlib.Nat.{not-suc-le-zero, le-of-suc-le-suc, add-zero}
 use native.Mathlib.Omega.{arith}
-use borrow.Author.Tests.{eq-eqb, ne-eqb, not-true}
+use borrow.Author.Tests.{eq-eqb}
 use lib.Dec.{eqb, leb, lit<}
-use lib.ListN.{length, getD, take, drop, length-append, length-take, length-drop, length-map, List·getD-append, List·getD-map}
+use lib.ListN.{length, getD, take, drop, length-append, length-drop, length-map, List·getD-append, List·getD-map}
 use lib.Seq.{length-take-le, getD-take, drop-at}
-use Rattle.logic.specs.Rules.{both, either, implies, pick, rule, allBelow}
+use Rattle.logic.specs.Rules.{both, either, implies, pick, allBelow}
 use Rattle.logic.specs.Lists.{allOf, numbersFrom}
-use Rattle.logic.proofs.Chain.{both-left, both-right, both-true, rule-kept}
+use Rattle.logic.proofs.Chain.{both-right, both-true, rule-kept}
 use Rattle.logic.proofs.Below.{below}
-use Rattle.logic.proofs.Members.{member-at, place-of, all-members, all-member}
+use Rattle.logic.proofs.Members.{member-at, place-of, all-members}
 use Rattle.table.specs.Layouts.{Width}
 use Rattle.table.specs.Rows.{careOf, valueOf, rowOk}
 use Rattle.record.specs.Jobs.{longer, dataWires, ancillas, freeLayout, gateLimit, costLimit, depthLimit, weightsAt, prices, durations, rows}
 use Rattle.record.specs.Jobs.{jobLengthOk, sizeOk, headOk, limitOk, durationsOk, rowsOk, jobCode}
 use Rattle.record.specs.Inner.{jobRest}
 use Rattle.record.proofs.Kept.{sound-job}
-use Rattle.parity.specs.Parity.{values, differs, fullRow, full, distinct, permutes}
+use Rattle.parity.specs.Parity.{values, fullRow, full, distinct, permutes}
 use Rattle.parity.proofs.Permutation.{permutation}
 use Rattle.search.specs.Outcomes.{searchOf}
 use Rattle.entries.specs.Library.{libraryCode}
 use Rattle.library.specs.Calls.{searchWith}
+use Rattle.permutations.specs.Orders.{rowOf}
+use Rattle.permutations.proofs.Lists.{row-of-at}
 use Rattle.inverse.specs.Mirror.{Alike}
-use Rattle.inverse.specs.Inverse.{Permutation, Inverse, valueAt, rowOf, inverseRow, inverseRows, inverseJob}
+use Rattle.inverse.specs.Inverse.{Permutation, Inverse, valueAt, inverseRow, inverseRows, inverseJob}
 use Rattle.inverse.proofs.Tables.{fullOf, wide, row-in, value-low}
 use Rattle.inverse.proofs.Jobs.{row-with}
 use Rattle.inverse.proofs.Searches.{search-alike, search-with-alike}
-
--- a value that stands once is found in its row
-row-of-at : (l : List ℕ) (i : ℕ) → distinct l ≡ true → i < length l → rowOf (getD l i 0) l ≡ i
-unfolding rowOf distinct
-row-of-at [] i d h = absurd (not-suc-le-zero h)
-row-of-at (y ∷ l) zero d h = rw (eq-eqb y y refl)
-row-of-at (y ∷ l) (suc i) d h =
-    let k : i < length l = le-of-suc-le-suc h in
-    let f = not-true (eqb (getD l i 0) y) (all-member (differs y) (getD l i 0) l (both-left (allOf (differs y) l) (distinct l) d) (member-at l i k)) in
-    let n : eqb y (getD l i 0) ≡ false = ne-eqb y (getD l i 0) (λ e. false≢true (sym f ∙ eq-eqb (getD l i 0) y (sym e))) in
-    rw n (ap suc (row-of-at l i (both-right (allOf (differs y) l) (distinct l) d) k))
 
 -- a list made from numbers, place by place
 made-at : (f : ℕ → ℕ) (n k i : ℕ) → i < n → getD (map f (numbersFrom k n)) i 0 ≡ f (k + i)

@@ -7,7 +7,8 @@ use Rattle.table.specs.Rows.{rowOk}
 use Rattle.record.specs.Jobs.{longer, dataWires, ancillas, freeLayout, gateLimit, durations}
 use Rattle.record.specs.Jobs.{jobLengthOk, sizeOk, headOk, limitOk, durationsOk, rowsOk, jobCode}
 use Rattle.parity.specs.Parity.{full, distinct, permutes}
-use Rattle.inverse.specs.Inverse.{Permutation, Inverse, rowOf, inverseJob}
+use Rattle.permutations.specs.Orders.{rowOf}
+use Rattle.inverse.specs.Inverse.{Permutation, Inverse, inverseJob}
 use Rattle.inverse.proofs.Made.{inverse-is}
 
 -- a job with these values, every bit wanted: four data wires, fixed layout, gate limit 12, prices 1, 1, 5 and durations 1, 1, 7

@@ -1,15 +1,15 @@
 -- A full permutation and its inverse, as jobs.
 use mathlib.Core.Path.{_≡_}
 use mathlib.Core.Bool.{true}
-use mathlib.Core.List.{List, [], _∷_, _++_, map}
-use Prim.Native.Nat.{ℕ, suc, _+_, _-_, _*_, _^_, _<_}
-use lib.Dec.{eqb}
+use mathlib.Core.List.{List, _++_, map}
+use Prim.Native.Nat.{ℕ, _+_, _-_, _*_, _^_, _<_}
 use lib.ListN.{getD, take}
 use Rattle.logic.specs.Rules.{pick}
 use Rattle.logic.specs.Lists.{numbersFrom}
 use Rattle.table.specs.Rows.{valueOf}
 use Rattle.record.specs.Jobs.{longer, dataWires, ancillas, freeLayout, gateLimit, costLimit, depthLimit, prices, durations, rows, jobCode}
 use Rattle.parity.specs.Parity.{values, permutes}
+use Rattle.permutations.specs.Orders.{rowOf}
 
 -- "a full permutation .. in [a] well-formed [job] with m = 0, fixed placing"
 pub record Permutation (job : List ℕ) : Type 0 where
@@ -34,11 +34,6 @@ pub record Inverse (job other : List ℕ) : Type 0 where
   pub same-prices : prices job ≡ prices other
   pub same-durations : durations job ≡ durations other
   pub undone : (x : ℕ) → x < 2 ^ dataWires job → valueAt other (valueAt job x) ≡ x
-
--- the number of the row in which a value stands
-unfoldable pub rowOf : ℕ → List ℕ → ℕ
-rowOf v [] = 0
-rowOf v (y ∷ ys) = pick (eqb y v) 0 (suc (rowOf v ys))
 
 -- row v of the inverse table: the full mask, and the row of v in the table
 abbrev pub inverseRow : List ℕ → ℕ → ℕ

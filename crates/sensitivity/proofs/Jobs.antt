@@ -18,7 +18,7 @@ use Rattle.logic.proofs.Below.{below}
 use Rattle.gate.specs.declared.Kind.{Kind}
 use Rattle.gate.specs.declared.Kind.the-variants.{Not, Cnot, Toffoli, Cccnot}
 use Rattle.gate.specs.Gates.{gateOf, gatesFor}
-use Rattle.circuit.specs.Measure.{weightFor, weightOf, cost}
+use Rattle.circuit.specs.Measure.{weightFor, weightOf}
 use Rattle.table.specs.Layouts.{layoutsFor}
 use Rattle.table.specs.Rows.{realizes}
 use Rattle.record.specs.Jobs.{longer, dataWires, ancillas, wires, freeLayout, gateLimit, costLimit, depthLimit, weightsAt, prices, durations, priceOf, rows, jobCode}
@@ -76,26 +76,29 @@ held n true h = any (eqb n 3)
     any false = refl
 held n false h = rw (ne-eqb n 3 (λ (e : n ≡ 3). omega arith))
 
--- no gate costs more than 255, so twelve cost at most 3,060
+-- no price or duration is above 255, so those of twelve gates add up to at most 3,060
+pub weight-small : (four : Bool) (job : List ℕ) (i : ℕ) → Bytes job → (κ : Kind) → weightFor (weightsAt four job i) κ ≤ 255
+weight-small four job i small Not = omega (arith, small i)
+weight-small four job i small (Cnot a) = omega (arith, small (i + 1))
+weight-small four job i small (Toffoli a b) = omega (arith, small (i + 2))
+weight-small four job i small (Cccnot a b c) = picked four
+  where
+    picked : (t : Bool) → pick t (getD job (i + 3) 0) 0 ≤ 255
+    picked true = omega (arith, small (i + 3))
+    picked false = omega arith
+
 price-small : (job : List ℕ) → Bytes job → (b : ℕ) → priceOf job b ≤ 255
 unfolding prices weightOf
-price-small job small b =
-    let n = kindNumber (gateOf b .kind) in
-    subst (λ (x : ℕ). x ≤ 255) (sym (weight-at (longer job) job (gateOf b .kind)))
-    (picked (implies (eqb n 3) (longer job)) (getD job (6 + n) 0) (small (6 + n)))
-  where
-    picked : (t : Bool) (x : ℕ) → x < 256 → pick t x 0 ≤ 255
-    picked true x h = omega arith
-    picked false x h = omega arith
+price-small job small b = weight-small (longer job) job 6 small (gateOf b .kind)
 
-cost-small : (price : ℕ → ℕ) → ((b : ℕ) → price b ≤ 255) → (l : List ℕ) → cost price l ≤ 255 * length l
+pub total-small : (f : ℕ → ℕ) → ((b : ℕ) → f b ≤ 255) → (l : List ℕ) → total f l ≤ 255 * length l
 unfolding total
-cost-small price h [] = omega arith
-cost-small price h (b ∷ l) = omega (arith, h b, cost-small price h l)
+total-small f h [] = omega arith
+total-small f h (b ∷ l) = omega (arith, h b, total-small f h l)
 
 pub roomy : (job : List ℕ) → Bytes job → jobCode job ≡ 0 → 65535 ≤ costLimit job → Roomy (problemOf job)
 unfolding problemOver
-roomy job small sound wide l few = omega (arith, cost-small (priceOf job) (price-small job small) l, sound-job job sound .limit)
+roomy job small sound wide l few = omega (arith, total-small (priceOf job) (price-small job small) l, sound-job job sound .limit)
 
 module _ (old new : List ℕ) (k : ℕ) (c : Changed old new k) where
   same-longer : longer old ≡ longer new

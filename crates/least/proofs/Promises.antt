@@ -1,0 +1,25 @@
+-- In the words of the calls: the search answers 14 exactly where the sheet's cell is above the job's gate limit.
+use mathlib.Core.Path.{_≡_}
+use mathlib.Core.Logic.{_↔_}
+use mathlib.Core.List.{List}
+use Prim.Native.Nat.{ℕ, _≤_, _<_}
+use Rattle.logic.specs.Answers.{refused}
+use Rattle.table.specs.Layouts.{plain}
+use Rattle.record.specs.Jobs.{dataWires, gateLimit}
+use Rattle.parity.specs.Parity.{values}
+use Rattle.search.specs.Outcomes.{searchOf}
+use Rattle.search.proofs.Facts as Search
+use Rattle.permutations.specs.Sizes.{cellOf}
+use Rattle.permutations.proofs.Promises.{exceeds}
+use Rattle.least.specs.Counting.{Counting}
+use Rattle.least.proofs.Jobs.{arranges, solves, solved}
+
+-- "gets 14 exactly when its cell exceeds the gate limit"
+pub none-exceeds : (job : List ℕ) → Counting job → (room : ℕ) → 15 ≤ room
+    → (searchOf job room ≡ refused 14) ↔ (gateLimit job < cellOf (values job))
+none-exceeds job c room wide =
+    let none = Search.none-is job (c .permutation .sound) room wide in
+    let above = exceeds (values job) (arranges job c) (gateLimit job) in (
+      (λ h. above .1 (λ l w few m. none .0 h l (plain (dataWires job)) (solves job c l w few m))),
+      (λ h. none .1 (λ l p s. let q = solved job c l p s in above .0 h l (q .0) (q .1 .0) (q .1 .1))),
+    )

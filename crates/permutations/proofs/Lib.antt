@@ -1,0 +1,9 @@
+pub mod Lists
+pub mod Orders
+pub mod Dictionary
+pub mod Masks
+pub mod Least
+pub mod Made
+pub mod Levels
+pub mod Exchanges
+pub mod Promises

@@ -9,6 +9,7 @@ Run it in the repository's root: python3 tools/examples.py
 import os
 
 import batch_vectors
+import closest_vectors
 import jobs
 import library_vectors
 import price_vectors
@@ -149,6 +150,13 @@ def change(old, new):
     return "by %s\n" % ("%+d" % difference if difference else "0") + printed
 
 
+def nearest(job):
+    """What the closest circuit of a sound job prints."""
+    misses, cost, count, depth, layout, gates = closest_vectors.brute(job)
+    circuit = bytes([job[0] & 0xF8, layout, count, *gates])
+    return "misses %d\nfound %d %d %d %s\n" % (misses, count, cost, depth, circuit.hex().upper())
+
+
 def put(folder, name, content):
     os.makedirs(folder, exist_ok=True)
     mode = "wb" if isinstance(content, bytes) else "w"
@@ -173,6 +181,7 @@ def main():
     far = files["across.job"]
     files["morning.batch"] = far + jobs.job(jobs.after([0x25, 0x0A], 4), 2) + far[:1] + b"\x0d" + far[2:] + jobs.job(across, 0) + far
     files["cnot1.job"], files["cnot5.job"] = (jobs.job(jobs.after([0x21], 3), 4, prices=(0, price, 1)) for price in (1, 5))
+    files["swap2.job"] = jobs.job(closest_vectors.SAMPLE, 2)
     files["cut.batch"] = files["morning.batch"][:-1]
     records = {
         "gift.circuit": files["gift.circuit"],
@@ -193,6 +202,7 @@ def main():
         "gazbolk_cut": ("batch", "cut.batch"),
         "gazbolk_compare": ("compare", "cnot1.job", "cnot5.job"),
         "gazbolk_unlike": ("compare", "across.job", "across3.job"),
+        "gazbolk_closest": ("closest", "swap2.job"),
     }
     for crate, (command, *names) in runs.items():
         folder = os.path.join("crates", crate)
@@ -200,7 +210,7 @@ def main():
             put(os.path.join(folder, "data"), name, files[name])
         put(folder, "args", "\n".join([command, *names]) + "\n")
         contents = [records.get(name, files[name]) for name in names]
-        put(folder, "stdout", {"verify": verdict, "search": finding, "batch": lines, "compare": change}[command](*contents))
+        put(folder, "stdout", {"verify": verdict, "search": finding, "batch": lines, "compare": change, "closest": nearest}[command](*contents))
     for asked in ("gift.job", "example4.job"):
         for given in records:
             print(asked, given, verdict(files[asked], records[given]).replace("\n", " "))

@@ -1,7 +1,7 @@
 -- The whole-column test is the row-by-row test: columns have every wanted bit of a table exactly when the list agrees with its rows, and
 -- the ancilla's column is 0 exactly when the list is clean.
 use mathlib.Core.Path.{_≡_, refl, sym, ap, ap₂, _∙_}
-use mathlib.Core.Bool.{Bool, true, false}
+use mathlib.Core.Bool.{Bool, true, false, not}
 use mathlib.Core.Logic.{⊎-elim}
 use mathlib.Core.List.{List}
 use Prim.Native.Nat.{ℕ, zero, suc, _^_, _≤_, _<_}
@@ -11,10 +11,9 @@ use borrow.Author.Tests.{eqb-true, eq-eqb}
 use lib.Bits.{bitAnd, bitXor, and-le-r}
 use lib.Dec.{eqb, lit<, lit≤}
 use lib.ListN.{length, getD}
-use Rattle.logic.specs.Rules.{both, implies, allBelow}
+use Rattle.logic.specs.Rules.{implies, bit, allBelow}
 use Rattle.logic.specs.Lists.{allOf}
 use Rattle.logic.specs.Bit.{bitOf}
-use Rattle.logic.proofs.Chain.{both-parts, implied}
 use Rattle.logic.proofs.Below.{below}
 use Rattle.logic.proofs.Counts.{same-truth, all-below}
 use Rattle.logic.proofs.Bits.{bit-xor, bit-and, zero-bits}
@@ -50,14 +49,8 @@ unfolding dirt
 dirt-lt n small column = lt-of-le-of-lt (and-le-r column (allRows n)) small
 
 -- one bit of the test: computed for all bits
-abbrev test : ℕ → ℕ → ℕ → Bool
-test a b c = eqb (bitAnd (bitXor a b) c) 0
-
-abbrev rule : ℕ → ℕ → ℕ → Bool
-rule a b c = implies (eqb c 1) (eqb a b)
-
 abbrev same₁ : ℕ → ℕ → ℕ → Bool
-same₁ a b c = both (implies (test a b c) (rule a b c)) (implies (rule a b c) (test a b c))
+same₁ a b c = eqb (bitAnd (bitXor a b) c) (bit (not (implies (eqb c 1) (eqb a b))))
 
 abbrev same₂ : ℕ → ℕ → Bool
 same₂ a b = allBelow 2 (same₁ a b)
@@ -65,10 +58,13 @@ same₂ a b = allBelow 2 (same₁ a b)
 abbrev same₃ : ℕ → Bool
 same₃ a = allBelow 2 (same₂ a)
 
-clear : (a b c : ℕ) → a < 2 → b < 2 → c < 2 → test a b c ≡ rule a b c
+clear : (a b c : ℕ) → a < 2 → b < 2 → c < 2 → bitAnd (bitXor a b) c ≡ bit (not (implies (eqb c 1) (eqb a b)))
 clear a b c ha hb hc =
-    let s = both-parts (implies (test a b c) (rule a b c)) (implies (rule a b c) (test a b c)) (below 2 (same₁ a b) (below 2 (same₂ a) (below 2 same₃ refl a ha) b hb) c hc) in
-    same-truth (test a b c) (rule a b c) (implied (test a b c) (rule a b c) (s .0)) (implied (rule a b c) (test a b c) (s .1))
+    eqb-true (bitAnd (bitXor a b) c) (bit (not (implies (eqb c 1) (eqb a b)))) (below 2 (same₁ a b) (below 2 (same₂ a) (below 2 same₃ refl a ha) b hb) c hc)
+
+zero-so : (b : Bool) → eqb (bit (not b)) 0 ≡ b
+zero-so true = refl
+zero-so false = refl
 
 -- bit x of a wire's column is what the wire has at the end of row x
 module _ (gs : List ℕ) (hg : allOf (lawful 3 5) gs ≡ true) where
@@ -108,22 +104,25 @@ module _ (rows gs : List ℕ) (few : length rows ≤ 16) (hg : allOf (lawful 3 5
   wanted-bit care j x h l = ap (bitOf x) (columns-at care rows j h) ∙ column-bit (rowBit care j) (row-bit-lt care j) rows x l
 
   module _ (j : ℕ) (h : j < 4) where
-    abbrev missing : ℕ
+    abbrev pub missing : ℕ
     missing = misses (wantedOf rows) (getD (columnsAfter gs startColumns) (wireOf p j) 0) j
 
-    miss-bit : (x : ℕ) → x < length rows → eqb (bitOf x missing) 0 ≡ bitAgrees p (getD rows x 0) (forwards gs x) j
+    -- of the rows that miss the output, bit x is 1 where row x does not agree there
+    pub miss-is : (x : ℕ) → x < length rows → bitOf x missing ≡ bit (not (bitAgrees p (getD rows x 0) (forwards gs x) j))
     unfolding misses wantedOf bitAgrees rowBit
-    miss-bit x l =
+    miss-is x l =
         let row = getD rows x 0 in
         let c = getD (columnsAfter gs startColumns) (wireOf p j) 0 in
         let v = getD (columnsOf false rows) j 0 in
         let m = getD (columnsOf true rows) j 0 in
-        ap (λ n. eqb n 0)
-        (bit-and x (bitXor c v) m
-        ∙ ap₂ bitAnd (bit-xor x c v ∙ ap₂ bitXor (wire-bit gs hg (wireOf p j) x (omega arith) (omega arith)) (wanted-bit false j x h l)) (wanted-bit true j x h l))
+        bit-and x (bitXor c v) m
+        ∙ ap₂ bitAnd (bit-xor x c v ∙ ap₂ bitXor (wire-bit gs hg (wireOf p j) x (omega arith) (omega arith)) (wanted-bit false j x h l)) (wanted-bit true j x h l)
         ∙ clear (bitOf (wireOf p j) (forwards gs x)) (bitOf j (valueOf row)) (bitOf j (careOf row)) (omega arith) (omega arith) (omega arith)
 
-    miss-lt : missing < 2 ^ length rows
+    miss-bit : (x : ℕ) → x < length rows → eqb (bitOf x missing) 0 ≡ bitAgrees p (getD rows x 0) (forwards gs x) j
+    miss-bit x l = ap (λ n. eqb n 0) (miss-is x l) ∙ zero-so (bitAgrees p (getD rows x 0) (forwards gs x) j)
+
+    pub miss-lt : missing < 2 ^ length rows
     unfolding misses wantedOf
     miss-lt =
         let c = getD (columnsAfter gs startColumns) (wireOf p j) 0 in

@@ -30,6 +30,10 @@ fn dispatch(word: &[u8], words: usize) {
         compare();
         return;
     }
+    if is_asked(word, b"closest", words, 3, 3) {
+        closest();
+        return;
+    }
     usage();
 }
 
@@ -60,6 +64,11 @@ fn usage() {
     say(b"    two job records with no limit on cost.\n");
     say(b"    Prints `by DIFFERENCE`, the new least cost less the old, and both jobs' lines; or\n");
     say(b"    `refused NUMBER` and what it means.\n");
+    say(b"\nclosest JOB\n");
+    say(b"    Searches within a job's limits for the circuit that misses the fewest wanted bits\n");
+    say(b"    of the table: none of them, where `search` finds a circuit.\n");
+    say(b"    Prints `misses NUMBER`, and the circuit's line as `search` does; or `refused\n");
+    say(b"    NUMBER` and what it means.\n");
     say(b"\nA file that cannot be read gets the line `unreadable NAME`.\n");
 }
 
@@ -100,6 +109,14 @@ fn compare() {
     let new = open(3);
     if all_open(old, new, 0) {
         print_change(old, new);
+    }
+}
+
+// `gazbolk closest JOB`
+fn closest() {
+    let job = open(2);
+    if job >= 0 {
+        print_closest(job);
     }
 }
 
@@ -204,5 +221,14 @@ fn print_change(old_file: i32, new_file: i32) {
     let m = read_part(true, new_file, compare::job_room(), &mut new);
     let mut out = [0u8; 256];
     let size = compare::compare_text(&old[..n], &new[..m], &mut out);
+    say(&out[..size]);
+}
+
+// Searches for the closest circuit of the job in an open file, and prints it. As much of the file is read as tells it.
+fn print_closest(job_file: i32) {
+    let mut job = io::buffer();
+    let n = read_part(true, job_file, closeness::job_room(), &mut job);
+    let mut out = [0u8; 128];
+    let size = closeness::closest_text(&job[..n], &mut out);
     say(&out[..size]);
 }

@@ -44,7 +44,7 @@ fn put_change(out: &mut [u8], difference: i32) -> usize
 }
 
 // Writes the line of a circuit that was found.
-fn put_found(out: &mut [u8], i: usize, m: Measures, circuit: &[u8]) -> usize
+pub fn put_found(out: &mut [u8], i: usize, m: Measures, circuit: &[u8]) -> usize
     requires { ⌜ length (now circuit) ≤ 15 ⌝ }
     requires { ⌜ i + 64 ≤ length (now out) ⌝ }
     ensures { λ r. ⌜ Wrote (now (out .entry)) i (foundLine m (now (circuit .entry))) (now (out .exit)) r ⌝ }

@@ -162,7 +162,7 @@ pub fn affordable(task: Task, least: Least, s: Node, remaining: usize, best: Bes
 }
 
 // Whether a list of this cost and length, however it goes on, leaves what is held.
-fn dear(limit: usize, paid: usize, len: usize, best: Best) -> bool
+pub fn dear(limit: usize, paid: usize, len: usize, best: Best) -> bool
     ensures { λ r. ⌜ (r ≡ true → (P : Problem) (l : List ℕ) (k : ℕ) → paid ≡ cost (P .price) l → len ≡ length l → lookedUnder P limit l k (view best) ≡ view best) ⌝ }
 {
     if limit < paid {
@@ -235,7 +235,7 @@ pub fn advance(table: &[u16], task: Task, least: Least, s: Node, entry: Entry) -
 }
 
 // Whether gate `g` need not be tried at a node: it changes no column, or a list that comes first does the same.
-fn needless(table: &[u16], s: Node, g: u8) -> bool
+pub fn needless(table: &[u16], s: Node, g: u8) -> bool
     requires { ⌜ (length (now table) ≡ 40) × (targetOf g < 5) ⌝ }
     ensures { λ r. ⌜ ((P : Problem) (task : Task) → Asks P task → At P s → List·Memᴰ g (P .gates) → now (table .entry) ≡ tableOf (task .controls) (task .wanted) (s .columns) → r ≡ needless (listOf s) g) ⌝ }
 {
@@ -244,7 +244,7 @@ fn needless(table: &[u16], s: Node, g: u8) -> bool
 }
 
 // Whether the list with one gate more ends within the limit on depth.
-fn in_time(task: Task, s: Node, entry: Entry) -> bool
+pub fn in_time(task: Task, s: Node, entry: Entry) -> bool
     requires { ⌜ (s .len < 12) × Small s ⌝ }
     ensures { λ r. ⌜ (r ≡ false → (P : Problem) → Asks P task → At P s → Lists P entry → P .mostDepth < depth (P .duration) (listOf s ++ (entry .gate ∷ []))) ⌝ }
 {

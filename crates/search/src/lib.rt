@@ -10,7 +10,7 @@ ghost use Rattle.record.specs.Jobs.{priceOf, durationOf, jobCode};
 ghost use Rattle.verify.specs.Calls.{measuresOf};
 ghost use Rattle.choice.specs.Inner.{view};
 ghost use Rattle.problem.specs.Problems.{firstGood};
-ghost use Rattle.search.specs.Outcomes.{GateSet, problemOver, problemOf, searchOf, reported, written, searchedAnswer, sizeIn};
+ghost use Rattle.search.specs.Outcomes.{GateSet, ownSet, problemOver, problemOf, searchOf, reported, written, searchedAnswer, sizeIn};
 ghost use Rattle.search.specs.Inner.{taskOf, Lawfuls, Tabled, toldOf};
 
 // What the search answers: a refusal's number, or the record's length and measures.
@@ -19,8 +19,16 @@ pub enum Searched {
     Found(usize, Measures),
 }
 
+// Gates with their prices and durations, the first `count` of each.
+pub struct Tables {
+    pub count: usize,
+    pub gates: [u8; 75],
+    pub prices: [u8; 75],
+    pub durations: [u8; 75],
+}
+
 // What the job asks of the solver.
-fn task_of(job: &[u8]) -> Task
+pub fn task_of(job: &[u8]) -> Task
     requires { ⌜ jobCode (now job) ≡ 0 ⌝ }
     ensures { λ r. ⌜ r ≡ taskOf (now (job .entry)) ⌝ }
 {
@@ -60,11 +68,12 @@ pub fn solve_among(
     )
 }
 
-// The first good choice of a well-formed job.
-fn first_good(job: &[u8]) -> Best
+// The gates lawful for a well-formed job, at its own prices and durations.
+pub fn own_tables(job: &[u8]) -> Tables
     requires { ⌜ jobCode (now job) ≡ 0 ⌝ }
-    ensures { λ r. ⌜ view r ≡ firstGood (problemOf (now (job .entry))) ⌝ }
-    ensures { λ r. ⌜ r .len ≤ 12 ⌝ }
+    ensures { λ r. ⌜ r .count ≤ 75 ⌝ }
+    ensures { λ r. ⌜ Lawfuls (now (job .entry)) (take (r .count) (r .gates)) ⌝ }
+    ensures { λ r. ⌜ Tabled (ownSet (now (job .entry))) (r .gates) (r .prices) (r .durations) (r .count) ⌝ }
 {
     let most = record::most_controls(job);
     let wires = record::wires(job);
@@ -72,11 +81,29 @@ fn first_good(job: &[u8]) -> Best
     let gates = gate_tables::gate_table(most, wires);
     let prices = asking::weigh(record::prices(job), &gates[..count]);
     let durations = asking::weigh(record::durations(job), &gates[..count]);
-    solve_among(job, count, gates, prices, durations)
+    Tables {
+        count,
+        gates,
+        prices,
+        durations,
+    }
+}
+
+// The first good choice of a well-formed job.
+pub fn first_good(job: &[u8]) -> Best
+    requires { ⌜ jobCode (now job) ≡ 0 ⌝ }
+    ensures { λ r. ⌜ view r ≡ firstGood (problemOf (now (job .entry))) ⌝ }
+    ensures { λ r. ⌜ r .len ≤ 12 ⌝ }
+{
+    let own = own_tables(job);
+    let gates = own.gates;
+    let prices = own.prices;
+    let durations = own.durations;
+    solve_among(job, own.count, gates, prices, durations)
 }
 
 // The measures of the first gates of a path, as `verify` takes them.
-fn measures_of(job: &[u8], path: [u8; 12], len: usize) -> Measures
+pub fn measures_of(job: &[u8], path: [u8; 12], len: usize) -> Measures
     requires { ⌜ len ≤ 12 ⌝ }
     ensures { λ r. ⌜ r ≡ measuresOf (priceOf (now (job .entry))) (durationOf (now (job .entry))) (take len path) ⌝ }
 {

@@ -1,5 +1,6 @@
 // Runs the calls that stand in text files, one to a line, and writes a line for each: its answer, or a heading as it is. A line that is
 // no call gets `bad line` and its number, so that a slip in the data is seen.
+use approximate::Nearest;
 use batch::Batched;
 use libc::STDOUT_FILENO;
 use parity::TableParity;
@@ -29,6 +30,7 @@ fn main() {
     run_file(b"library");
     run_file(b"batches");
     run_file(b"prices");
+    run_file(b"closest");
 }
 
 fn say(text: &[u8]) {
@@ -116,16 +118,18 @@ fn is_name(letter: u8, name: &[u8]) -> bool {
         b't' => same(name, b"together"),
         b'd' => same(name, b"difference"),
         b'g' => same(name, b"gap"),
+        b'n' => same(name, b"nearest"),
         _ => false,
     }
 }
 
-// What stands after the first word: a byte for a run and a search, a record, a library or a length for seven calls, nothing for the others.
+// What stands after the first word: a byte for a run and two searches, a record, a library or a length for seven calls, nothing for the others.
 fn second_ok(letter: u8, rest: &[u8]) -> bool {
     match letter {
         b'f' => is_byte(rest),
         b'b' => is_byte(rest),
         b's' => is_byte(rest),
+        b'n' => is_byte(rest),
         b'm' => is_word(rest),
         b'v' => is_word(rest),
         b'a' => is_word(rest),
@@ -234,6 +238,7 @@ fn dispatch(letter: u8, first: &[u8], second: &[u8], third: &[u8]) {
         b't' => say_batch(first, second, logic::at(third, 0)),
         b'd' => say_change(sensitivity::price_change(first, second)),
         b'g' => say_difference(sensitivity::cost_difference(cost_in(first), cost_in(second))),
+        b'n' => say_closest(first, logic::at(second, 0)),
         _ => say(b"unknown"),
     }
 }
@@ -423,6 +428,38 @@ fn say_found(size: usize, m: Measures) {
     io::print_decimal(STDOUT_FILENO, size as u64);
     say(b" ");
     say_measures(m);
+}
+
+// Searches for the closest circuit with an answer buffer of `room` bytes, and writes the answer and the whole buffer.
+fn say_closest(job: &[u8], room: u8) {
+    let mut buffer = io::buffer();
+    number(&mut buffer);
+    closest_into(job, &mut buffer, room as usize);
+}
+
+fn closest_into(job: &[u8], buffer: &mut [u8], n: usize) {
+    if n <= buffer.len() {
+        closest_whole(job, &mut buffer[..n]);
+    }
+}
+
+fn closest_whole(job: &[u8], answer: &mut [u8]) {
+    say_nearest(approximate::closest(job, answer));
+    say(b" ");
+    say_bytes(answer);
+}
+
+fn say_nearest(answer: Nearest) {
+    match answer {
+        Nearest::Refused(code) => say_refused(code),
+        Nearest::Found(size, m, misses) => say_near(size, m, misses),
+    }
+}
+
+fn say_near(size: usize, m: Measures, misses: usize) {
+    say_found(size, m);
+    say(b" misses ");
+    io::print_decimal(STDOUT_FILENO, misses as u64);
 }
 
 // Searches for the jobs of a batch with numbered buffers, and writes the answer and both buffers whole. The length of the answers has two bytes.

@@ -88,7 +88,7 @@ fn dfs(
 }
 
 // The node of the empty list.
-fn root(needs: usize) -> Node
+pub fn root(needs: usize) -> Node
     requires { ⌜ needs ≤ 12 ⌝ }
     ensures { λ r. ⌜ (r .len ≡ 0) × Small r ⌝ }
     ensures { λ r. ⌜ ((P : Problem) → Needs P [] needs → At P r) ⌝ }

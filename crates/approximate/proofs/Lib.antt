@@ -1,0 +1,4 @@
+pub mod Posed
+pub mod Answer
+pub mod Told
+pub mod Promises

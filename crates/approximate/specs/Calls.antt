@@ -1,0 +1,62 @@
+-- What is answered where the closest circuit is asked for (document 02, slip 10).
+use mathlib.Core.List.{List}
+use mathlib.Core.Option.{Option, none, some}
+use Prim.Native.Nat.{ℕ}
+use lib.Dec.{eqb}
+use lib.ListN.{length}
+use Rattle.logic.specs.Rules.{pick}
+use Rattle.logic.specs.Answers.{Answer, refused, answered}
+use Rattle.record.specs.Jobs.{dataWires, rows}
+use Rattle.choice.specs.Choices.{Choice}
+use Rattle.misses.specs.Misses.{missedIn, fewestMisses, closestChoice}
+use Rattle.search.specs.Outcomes.{ownSet, problemOf, Found, foundOf, Reported, reported, searchCode}
+use Rattle.approximate.specs.declared.Nearest.{Nearest}
+
+-- "the fewest wanted bits" that a circuit for the job misses, and the first that misses so few
+abbrev pub fewestFor : List ℕ → ℕ
+fewestFor job = fewestMisses (dataWires job) (rows job) (problemOf job)
+
+abbrev pub closestFor : List ℕ → Option Choice
+closestFor job = closestChoice (dataWires job) (rows job) (problemOf job)
+
+-- what the search finds, "plus the misses"
+pub record Close : Type 0 where
+  pub circuit : Found
+  pub misses : ℕ
+
+-- "There is always one", so that 14 is never answered: a theorem
+abbrev pub closeOf : List ℕ → Option Choice → Answer Close
+closeOf job none = refused 14
+closeOf job (some c) = answered (record { circuit = foundOf (ownSet job) job c; misses = missedIn (rows job) c })
+
+-- "only the job's checks and then 13 refuse"
+unfoldable pub closestOf : List ℕ → ℕ → Answer Close
+closestOf job room = pick (eqb (searchCode job room) 0) (closeOf job (closestFor job)) (refused (searchCode job room))
+
+-- "Answer as the search does": the circuit, written as there
+abbrev pub circuitIn : Answer Close → Answer Found
+circuitIn (refused code) = refused code
+circuitIn (answered c) = answered (c .circuit)
+
+-- what is returned: what the search returns, "plus the misses"
+pub record Told : Type 0 where
+  pub report : Reported
+  pub misses : ℕ
+
+abbrev pub withMisses : ℕ → Answer Reported → Answer Told
+withMisses k (refused code) = refused code
+withMisses k (answered r) = answered (record { report = r; misses = k })
+
+abbrev pub told : Answer Close → Answer Told
+told (refused code) = refused code
+told (answered c) = withMisses (c .misses) (reported (answered (c .circuit)))
+
+-- the number of a refusal, and the values of the other case
+abbrev pub nearestAnswer : Nearest → Answer Told
+nearestAnswer (Nearest.Refused code) = refused code
+nearestAnswer (Nearest.Found size m k) = answered (record { report = record { size = size; measures = m }; misses = k })
+
+-- the length that an answer names
+abbrev pub sizeIn : Nearest → ℕ
+sizeIn (Nearest.Refused code) = 0
+sizeIn (Nearest.Found size m k) = size

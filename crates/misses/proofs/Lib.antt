@@ -1,0 +1,4 @@
+pub mod Rows
+pub mod Counted
+pub mod Fewest
+pub mod Kept

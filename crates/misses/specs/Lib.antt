@@ -1,0 +1,2 @@
+pub mod Misses
+pub mod Columns

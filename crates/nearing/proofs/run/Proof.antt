@@ -1,0 +1,48 @@
+-- The recursion passes over needless gates; from nothing held that loses nothing, so what is found is the first of all lists.
+use mathlib.Core.Path.{sym, ap, _∙_}
+use mathlib.Core.List.{[]}
+use mathlib.Core.Option.{Option, none}
+use Prim.Native.Nat.{ℕ}
+use native.Mathlib.Omega.{arith}
+use borrow.Author.Needs.{needs}
+use lib.ListN.{take}
+use Rattle.choice.specs.Choices.{Choice}
+use Rattle.choice.specs.Inner.{view}
+use Rattle.problem.specs.Problems.{firstGood}
+use Rattle.problem.specs.Inner.{lookedUnder}
+use Rattle.pruned.specs.Pruned.{triedUnder}
+use Rattle.node.specs.States.{needless}
+use Rattle.nearing.specs.Loose.{loosened}
+use Rattle.nearing.proofs.Near.{nothing-lost}
+use Rattle.nearing.proofs.run.Statement.{statement}
+use Rattle.nearing.proofs.run.Tie as tie
+
+dfs-requires : tie.Need-dfs-requires
+dfs-requires c κs =
+    let s = c .before .before .before .before .before in
+    let e = c .before .root .ensures .0 in
+    let z = e .0 in
+    let m = s .pre .1 .1 in
+    (s .pre .0, (s .pre .1 .0, ((omega arith, c .nothing .ensures .1 .1), e .1)))
+
+returns : tie.Need-returns
+unfolding lookedUnder firstGood
+returns c =
+    let s = c .before .before .before .before .before .before in
+    let a = s .args in
+    let most = a .task .«gate_limit» in
+    let limit = a .task .«cost_limit» in
+    let root = c .before .before .root in (
+      (λ P posed limited.
+          let Q = loosened (a .task) (a .k) P in
+          c .dfs .ensures .0 P posed (root .ensures .1 P (record { least = λ e p among m r. omega arith }))
+          ∙ ap (λ (n : ℕ). triedUnder needless Q limit (take n (root .result .path)) most (view (c .before .nothing .result))) (root .ensures .0 .0)
+          ∙ ap (λ (x : Option Choice). triedUnder needless Q limit [] most x) (c .before .nothing .ensures .0)
+          ∙ nothing-lost P (a .task) (posed .asks) (a .k) limit most
+          ∙ ap (λ (n : ℕ). lookedUnder Q n [] most none) (limited .cost-most)
+          ∙ ap (λ (n : ℕ). lookedUnder Q (P .mostCost) [] n none) (limited .gates-most)),
+      c .dfs .ensures .1,
+    )
+
+pub run-spec : {M : Type 1} → statement M
+run-spec = tie.close (tie.spec (λ c κs. search needs) (λ c κs. search needs) dfs-requires returns)

@@ -1,0 +1,181 @@
+// The walk through all gate lists for those that miss at most so many wanted bits: depth first, cutting only what cannot change the answer.
+use choice::Best;
+use node::Entry;
+use node::Least;
+use node::Node;
+use node::Task;
+ghost use mathlib.Core.Path.{_≡_};
+ghost use mathlib.Core.Bool.{true, false};
+ghost use Prim.Native.Nat.{_+_, _≤_, _<_};
+ghost use lib.ListN.{length};
+ghost use Rattle.gate.specs.Gates.{targetOf};
+ghost use Rattle.table.specs.Layouts.{Width};
+ghost use Rattle.choice.specs.Choices.{attempt, improve};
+ghost use Rattle.choice.specs.Inner.{view};
+ghost use Rattle.problem.specs.Problems.{Problem, choiceOf, here, within, firstGood};
+ghost use Rattle.pruned.specs.Pruned.{triedUnder, triedBy};
+ghost use Rattle.products.specs.Products.{tableOf};
+ghost use Rattle.node.specs.States.{listOf, Slices, Small, Fair, Asks, Posed, Limited, At, Lists, needless};
+ghost use Rattle.nearing.specs.Loose.{loosened};
+
+// Offers the list so far with one layout, if that is good and misses at most `k` wanted bits.
+fn try_layout(task: Task, s: Node, k: usize, p: u8, best: Best) -> Best
+    requires { ⌜ (s .len ≤ 12) × (best .len ≤ 12) ⌝ }
+    ensures { λ r. ⌜ ((P : Problem) → Asks P task → At P s → view r ≡ attempt (within (loosened task k P) (task .«cost_limit»)) (view best) (choiceOf P (listOf s) p)) ⌝ }
+    ensures { λ r. ⌜ r .len ≤ 12 ⌝ }
+{
+    let wanted = task.wanted;
+    let columns = s.columns;
+    let times = s.times;
+    let depth = circuit::latest(times);
+    let cheap = logic::both(
+        s.cost as usize <= task.cost_limit,
+        depth as usize <= task.depth_limit,
+    );
+    if !logic::both(misses::nearly(wanted, task.outputs, k, columns, p), cheap) {
+        return best;
+    }
+    let path = s.path;
+    let mine = Best {
+        found: true,
+        cost: s.cost,
+        depth,
+        layout: p,
+        len: s.len,
+        path,
+    };
+    choice::offer(best, mine)
+}
+
+// Offers the list so far with each allowed layout.
+fn consider(task: Task, s: Node, k: usize, best: Best) -> Best
+    requires { ⌜ Width (task .outputs) ⌝ }
+    requires { ⌜ (s .len ≤ 12) × (best .len ≤ 12) ⌝ }
+    ensures { λ r. ⌜ ((P : Problem) → Asks P task → At P s → view r ≡ improve (within (loosened task k P) (task .«cost_limit»)) (view best) (here (loosened task k P) (listOf s))) ⌝ }
+    ensures { λ r. ⌜ r .len ≤ 12 ⌝ }
+{
+    let count = table::layout_count(task.outputs, task.free);
+    let mut b = best;
+    let mut i = 0;
+    while i < count {
+        let p = table::layout_at(task.outputs, task.free, i);
+        let next = try_layout(task, s, k, p, b);
+        b = next;
+        i += 1;
+    }
+    b
+}
+
+// The same, but for lists of which every layout misses more.
+fn consider_near(task: Task, s: Node, k: usize, best: Best) -> Best
+    requires { ⌜ Width (task .outputs) ⌝ }
+    requires { ⌜ (s .len ≤ 12) × (best .len ≤ 12) ⌝ }
+    ensures { λ r. ⌜ ((P : Problem) → Asks P task → At P s → view r ≡ improve (within (loosened task k P) (task .«cost_limit»)) (view best) (here (loosened task k P) (listOf s))) ⌝ }
+    ensures { λ r. ⌜ r .len ≤ 12 ⌝ }
+{
+    let wanted = task.wanted;
+    let columns = s.columns;
+    if k < misses::missed_at_least(wanted, columns, task.outputs, task.free, 0) {
+        return best;
+    }
+    consider(task, s, k, best)
+}
+
+// Whether one gate of a node, with up to `rest` gates after it, can lead to something better than what is held.
+fn hopeful(
+    table: &[u16],
+    task: Task,
+    s: Node,
+    entry: Entry,
+    rest: usize,
+    k: usize,
+    best: Best,
+) -> bool
+    requires { ⌜ (length (now table) ≡ 40) × (targetOf (entry .gate) < 5) ⌝ }
+    requires { ⌜ Fair task × (s .len < 12) ⌝ }
+    requires { ⌜ Small s ⌝ }
+    ensures { λ r. ⌜ ((P : Problem) → Asks P task → At P s → Lists P entry → now (table .entry) ≡ tableOf (task .controls) (task .wanted) (s .columns) → r ≡ false → view best ≡ triedBy needless (loosened task k P) (task .«cost_limit») (listOf s) rest (entry .gate) (view best)) ⌝ }
+    ensures { λ r. ⌜ ((P : Problem) → Asks P task → At P s → Lists P entry → now (table .entry) ≡ tableOf (task .controls) (task .wanted) (s .columns) → r ≡ true → needless (listOf s) (entry .gate) ≡ false) ⌝ }
+{
+    if node::needless(table, s, entry.gate) {
+        return false;
+    }
+    let cost = s.cost as usize + entry.price as usize;
+    if node::dear(task.cost_limit, cost, s.len + 1, best) {
+        return false;
+    }
+    let wanted = task.wanted;
+    let columns = s.columns;
+    let next = products::step(table, columns, entry.gate);
+    if k < misses::missed_at_least(wanted, next, task.outputs, task.free, rest) {
+        return false;
+    }
+    node::in_time(task, s, entry)
+}
+
+// What is held once every list that begins with the node's and goes on by at most `remaining` gates, none of them needless, was looked at.
+fn dfs(
+    gates: &[u8],
+    prices: &[u8],
+    durations: &[u8],
+    task: Task,
+    s: Node,
+    remaining: usize,
+    k: usize,
+    best: Best,
+) -> Best
+    requires { ⌜ Slices (now gates) (now prices) (now durations) ⌝ }
+    requires { ⌜ Fair task ⌝ }
+    requires { ⌜ (s .len + remaining ≤ 12) × (best .len ≤ 12) ⌝ }
+    requires { ⌜ Small s ⌝ }
+    ensures { λ r. ⌜ ((P : Problem) → Posed P task (now (gates .entry)) (now (prices .entry)) (now (durations .entry)) → At P s → view r ≡ triedUnder needless (loosened task k P) (task .«cost_limit») (listOf s) remaining (view best)) ⌝ }
+    ensures { λ r. ⌜ r .len ≤ 12 ⌝ }
+{
+    let mut b = consider_near(task, s, k, best);
+    if remaining == 0 {
+        return b;
+    }
+    let wanted = task.wanted;
+    let columns = s.columns;
+    let table = products::table_of(task.controls, wanted, columns);
+    let mut i = 0;
+    while i < gates.len() {
+        let entry = Entry {
+            gate: gates[i],
+            price: prices[i],
+            duration: durations[i],
+        };
+        if hopeful(&table, task, s, entry, remaining - 1, k, b) {
+            let none = Least {
+                low: 0,
+                extra: 0,
+                needs: 0,
+            };
+            let node = node::advance(&table, task, none, s, entry);
+            let found = dfs(gates, prices, durations, task, node, remaining - 1, k, b);
+            b = found;
+        }
+        i += 1;
+    }
+    b
+}
+
+// The first good choice of those that miss at most `k` wanted bits.
+pub fn run(gates: &[u8], prices: &[u8], durations: &[u8], task: Task, k: usize) -> Best
+    requires { ⌜ Slices (now gates) (now prices) (now durations) ⌝ }
+    requires { ⌜ Fair task × (task .«gate_limit» ≤ 12) ⌝ }
+    ensures { λ r. ⌜ ((P : Problem) → Posed P task (now (gates .entry)) (now (prices .entry)) (now (durations .entry)) → Limited P task → view r ≡ firstGood (loosened task k P)) ⌝ }
+    ensures { λ r. ⌜ r .len ≤ 12 ⌝ }
+{
+    let most = task.gate_limit;
+    dfs(
+        gates,
+        prices,
+        durations,
+        task,
+        walk::root(0),
+        most,
+        k,
+        choice::nothing(),
+    )
+}

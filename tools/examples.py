@@ -14,6 +14,7 @@ import jobs
 import library_vectors
 import price_vectors
 import reference
+import rewrite_vectors
 
 GIFT = [int(digit, 16) for digit in "1A4C6F392DB7508E"]
 
@@ -57,10 +58,14 @@ MEANINGS = {14: "no circuit within the limits realizes the table",
             16: "the circuit does not realize the table",
             26: "the batch is not up to 64 whole records of 20 or 28 bytes",
             31: "the circuit has a gate that is not in the library",
+            34: "a gate of the list is not lawful, or has three controls",
             38: "the jobs differ in more than one price, or limit the cost"}
 
 # a device of three wires in a line: each wire has a NOT, and neighbours a CNOT either way
 LINE = [0x00, 0x02, 0x20, 0x21, 0x24, 0x40, 0x42]
+# four times two gates that are there twice, but for one; and a gate of three controls
+TWICE = [0x43, 0x20, 0x43, 0x20, 0x61, 0x25, 0x61, 0x25, 0x0A, 0x2C, 0x0A, 0x2C, 0x40, 0x61, 0x40, 0x61]
+THREE = 0x67
 # wire 0 added to wire 2, its neighbour's neighbour
 ACROSS = 0x41
 
@@ -157,6 +162,17 @@ def nearest(job):
     return "misses %d\nfound %d %d %d %s\n" % (misses, count, cost, depth, circuit.hex().upper())
 
 
+def rewriting(file):
+    """What the rewriting of a list prints: its gates and cost before and after, and the new list, or a refusal."""
+    wires, window, prices, gates = file[0], file[1], tuple(file[2:5]), list(file[5:])
+    code = rewrite_vectors.code_of(wires, window, gates)
+    if code:
+        return refusal(code)
+    new = rewrite_vectors.rewritten(rewrite_vectors.Answers(wires, window, prices), window, gates)
+    before, after = ("%d %d" % (len(part), sum(rewrite_vectors.price(prices, g) for g in part)) for part in (gates, new))
+    return "before %s\nafter %s\n%s\n" % (before, after, bytes(new).hex().upper())
+
+
 def put(folder, name, content):
     os.makedirs(folder, exist_ok=True)
     mode = "wb" if isinstance(content, bytes) else "w"
@@ -183,6 +199,8 @@ def main():
     files["cnot1.job"], files["cnot5.job"] = (jobs.job(jobs.after([0x21], 3), 4, prices=(0, price, 1)) for price in (1, 5))
     files["swap2.job"] = jobs.job(closest_vectors.SAMPLE, 2)
     files["cut.batch"] = files["morning.batch"][:-1]
+    files["twice.gates"] = bytes([4, 4, 1, 1, 5] + TWICE)
+    files["three.gates"] = files["twice.gates"] + bytes([THREE])
     records = {
         "gift.circuit": files["gift.circuit"],
         "gift.real": record(0x1B, gates_of(GIFT_PLAIN)),
@@ -203,6 +221,8 @@ def main():
         "gazbolk_compare": ("compare", "cnot1.job", "cnot5.job"),
         "gazbolk_unlike": ("compare", "across.job", "across3.job"),
         "gazbolk_closest": ("closest", "swap2.job"),
+        "gazbolk_rewrite": ("rewrite", "twice.gates"),
+        "gazbolk_gates": ("rewrite", "three.gates"),
     }
     for crate, (command, *names) in runs.items():
         folder = os.path.join("crates", crate)
@@ -210,7 +230,7 @@ def main():
             put(os.path.join(folder, "data"), name, files[name])
         put(folder, "args", "\n".join([command, *names]) + "\n")
         contents = [records.get(name, files[name]) for name in names]
-        put(folder, "stdout", {"verify": verdict, "search": finding, "batch": lines, "compare": change, "closest": nearest}[command](*contents))
+        put(folder, "stdout", {"verify": verdict, "search": finding, "batch": lines, "compare": change, "closest": nearest, "rewrite": rewriting}[command](*contents))
     for asked in ("gift.job", "example4.job"):
         for given in records:
             print(asked, given, verdict(files[asked], records[given]).replace("\n", " "))

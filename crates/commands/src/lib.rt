@@ -34,6 +34,10 @@ fn dispatch(word: &[u8], words: usize) {
         closest();
         return;
     }
+    if is_asked(word, b"rewrite", words, 3, 3) {
+        rewrite();
+        return;
+    }
     usage();
 }
 
@@ -68,6 +72,12 @@ fn usage() {
     say(b"    Searches within a job's limits for the circuit that misses the fewest wanted bits\n");
     say(b"    of the table: none of them, where `search` finds a circuit.\n");
     say(b"    Prints `misses NUMBER`, and the circuit's line as `search` does; or `refused\n");
+    say(b"    NUMBER` and what it means.\n");
+    say(b"\nrewrite FILE\n");
+    say(b"    Makes a list of gates cheaper, a few gates at a time. FILE names a file of five\n");
+    say(b"    bytes, the wires, the window and the prices of a NOT, a CNOT and a Toffoli, and\n");
+    say(b"    then up to 4,096 gates.\n");
+    say(b"    Prints `before GATES COST`, `after GATES COST` and the new list; or `refused\n");
     say(b"    NUMBER` and what it means.\n");
     say(b"\nA file that cannot be read gets the line `unreadable NAME`.\n");
 }
@@ -117,6 +127,14 @@ fn closest() {
     let job = open(2);
     if job >= 0 {
         print_closest(job);
+    }
+}
+
+// `gazbolk rewrite FILE`
+fn rewrite() {
+    let file = open(2);
+    if file >= 0 {
+        print_rewriting(file);
     }
 }
 
@@ -230,5 +248,16 @@ fn print_closest(job_file: i32) {
     let n = read_part(true, job_file, closeness::job_room(), &mut job);
     let mut out = [0u8; 128];
     let size = closeness::closest_text(&job[..n], &mut out);
+    say(&out[..size]);
+}
+
+// Rewrites the list in an open file, and prints what that comes to. As much of it is read as tells it.
+fn print_rewriting(file: i32) {
+    let mut head = [0u8; 5];
+    let n = io::read_full(file, &mut head);
+    let mut list = io::large_buffer();
+    let m = read_part(true, file, rewriting::list_room(), &mut list);
+    let mut out = [0u8; 8300];
+    let size = rewriting::rewrite_text(&head[..n], &mut list[..m], &mut out);
     say(&out[..size]);
 }

@@ -35,19 +35,19 @@ use Rattle.inverse.proofs.Jobs.{row-with}
 use Rattle.inverse.proofs.Searches.{search-alike, search-with-alike}
 
 -- a list made from numbers, place by place
-made-at : (f : ℕ → ℕ) (n k i : ℕ) → i < n → getD (map f (numbersFrom k n)) i 0 ≡ f (k + i)
+pub made-at : (f : ℕ → ℕ) (n k i : ℕ) → i < n → getD (map f (numbersFrom k n)) i 0 ≡ f (k + i)
 made-at f zero k i h = absurd (not-suc-le-zero h)
 made-at f (suc n) k zero h = ap f (sym (add-zero k))
 made-at f (suc n) k (suc i) h =
     let e : suc k + i ≡ k + suc i = omega arith in
     made-at f n (suc k) i (le-of-suc-le-suc h) ∙ ap f e
 
-made-length : (f : ℕ → ℕ) (n k : ℕ) → length (map f (numbersFrom k n)) ≡ n
+pub made-length : (f : ℕ → ℕ) (n k : ℕ) → length (map f (numbersFrom k n)) ≡ n
 made-length f zero k = refl
 made-length f (suc n) k = ap suc (made-length f n (suc k))
 
 -- a test of all elements, place by place
-all-placed : (f : ℕ → Bool) (l : List ℕ) → ((i : ℕ) → i < length l → f (getD l i 0) ≡ true) → allOf f l ≡ true
+pub all-placed : (f : ℕ → Bool) (l : List ℕ) → ((i : ℕ) → i < length l → f (getD l i 0) ≡ true) → allOf f l ≡ true
 all-placed f l h = all-members f l (λ a m. let r = place-of a l m in ap f (sym (r .1 .1)) ∙ h (r .0) (r .1 .0))
 
 -- a row with the full mask keeps the rules: computed for every value
@@ -62,7 +62,7 @@ fine-four : allBelow 16 (rowFine 4) ≡ true
 unfolding rowOk
 fine-four = refl
 
-fine-at : (n : ℕ) → Width n → (t : ℕ) → t < 2 ^ n → rowFine n t ≡ true
+pub fine-at : (n : ℕ) → Width n → (t : ℕ) → t < 2 ^ n → rowFine n t ≡ true
 fine-at n w =
     ⊎-elim
     (λ (e : n ≡ 3). subst (λ (m : ℕ). (t : ℕ) → t < 2 ^ m → rowFine m t ≡ true) (sym e) (below 8 (rowFine 3) fine-three))
@@ -70,7 +70,7 @@ fine-at n w =
     w
 
 -- three or four wires have 8 or 16 values
-sized : (n : ℕ) → Width n → (0 < 2 ^ n) × (2 ^ n ≤ 16)
+pub sized : (n : ℕ) → Width n → (0 < 2 ^ n) × (2 ^ n ≤ 16)
 sized n w =
     ⊎-elim
     (λ (e : n ≡ 3). subst (λ (m : ℕ). (0 < 2 ^ m) × (2 ^ m ≤ 16)) (sym e) (omega arith, omega arith))

@@ -2,7 +2,7 @@
 use mathlib.Core.Path.{_≡_, refl}
 use Rattle.logic.specs.Words.{bytes}
 use Rattle.text.specs.Text.{place, decimal, spaced, refusedLine}
-use Rattle.report.specs.Meanings.{said, otherMeaning, libraryMeaning, verifyMeaning, circuitMeaning, meaning}
+use Rattle.report.specs.Meanings.{said, otherMeaning, listingMeaning, libraryMeaning, verifyMeaning, circuitMeaning, meaning}
 use Rattle.report.specs.Report.{passedLine, times, readyLine, passedText, refusedText}
 
 -- document 01's gates 21 43, at prices 1, 1, 5 and durations 1, 1, 7
@@ -25,14 +25,18 @@ unfolding refusedText refusedLine decimal place said meaning circuitMeaning veri
 unlisted-sample = refl
 
 pub uncut-sample : refusedText 26 ≡ bytes "refused 26\nthe batch is not up to 64 whole records of 20 or 28 bytes\n"
-unfolding refusedText refusedLine decimal place said meaning circuitMeaning verifyMeaning libraryMeaning otherMeaning
+unfolding refusedText refusedLine decimal place said meaning circuitMeaning verifyMeaning libraryMeaning listingMeaning otherMeaning
 uncut-sample = refl
 
 pub unlike-sample : refusedText 38 ≡ bytes "refused 38\nthe jobs differ in more than one price, or limit the cost\n"
-unfolding refusedText refusedLine decimal place said meaning circuitMeaning verifyMeaning libraryMeaning otherMeaning
+unfolding refusedText refusedLine decimal place said meaning circuitMeaning verifyMeaning libraryMeaning listingMeaning otherMeaning
 unlike-sample = refl
+
+pub unwindowed-sample : refusedText 32 ≡ bytes "refused 32\nthe wires are not 3 or 4, or the window is not 2 to 4 gates\n"
+unfolding refusedText refusedLine decimal place said meaning circuitMeaning verifyMeaning libraryMeaning listingMeaning
+unwindowed-sample = refl
 
 -- 11 is reserved and never comes up
 pub unused-sample : refusedText 11 ≡ bytes "refused 11\nno rule has this number\n"
-unfolding refusedText refusedLine decimal place said meaning circuitMeaning verifyMeaning libraryMeaning otherMeaning
+unfolding refusedText refusedLine decimal place said meaning circuitMeaning verifyMeaning libraryMeaning listingMeaning otherMeaning
 unused-sample = refl

@@ -13,8 +13,8 @@ use Rattle.verify.specs.declared.Measures.{Measures}
 use Rattle.logic.specs.Words.{bytes}
 use Rattle.text.specs.Text.{refusedLine}
 use Rattle.text.proofs.Pieces.{decimal-short, spaced-short}
-use Rattle.report.specs.Meanings.{Meaning, _means_, jobMeanings, circuitMeanings, verifyMeanings, libraryMeanings, otherMeanings}
-use Rattle.report.specs.Meanings.{said, otherMeaning, libraryMeaning, verifyMeaning, circuitMeaning, meaning}
+use Rattle.report.specs.Meanings.{Meaning, _means_, jobMeanings, circuitMeanings, verifyMeanings, libraryMeanings, listingMeanings, otherMeanings}
+use Rattle.report.specs.Meanings.{said, otherMeaning, listingMeaning, libraryMeaning, verifyMeaning, circuitMeaning, meaning}
 use Rattle.report.specs.Report.{passedLine, times, readyLine, passedText, refusedText}
 
 -- no sentence of a list has more than 64 bytes
@@ -35,11 +35,12 @@ said-short n ((k means words) ∷ ms) rest b h =
     (said-short n ms rest (both-right short (brief ms) b) h)
 
 pub meaning-short : (n : ℕ) → length (meaning n) ≤ 64
-unfolding meaning circuitMeaning verifyMeaning libraryMeaning otherMeaning
+unfolding meaning circuitMeaning verifyMeaning libraryMeaning listingMeaning otherMeaning
 meaning-short n =
     said-short n jobMeanings _ refl
     (said-short n circuitMeanings _ refl
-    (said-short n verifyMeanings _ refl (said-short n libraryMeanings _ refl (said-short n otherMeanings _ refl (omega arith)))))
+    (said-short n verifyMeanings _ refl
+    (said-short n libraryMeanings _ refl (said-short n listingMeanings _ refl (said-short n otherMeanings _ refl (omega arith))))))
 
 pub refused-line-short : (code : ℕ) → length (refusedLine code) ≤ 14
 unfolding refusedLine

@@ -61,6 +61,14 @@ otherMeanings =
     ∷ (38 means "the jobs differ in more than one price, or limit the cost")
     ∷ []
 
+-- of rewriting a list of gates
+abbrev pub listingMeanings : List Meaning
+listingMeanings =
+    (32 means "the wires are not 3 or 4, or the window is not 2 to 4 gates")
+    ∷ (33 means "the list has more than 4,096 gates")
+    ∷ (34 means "a gate of the list is not lawful, or has three controls")
+    ∷ []
+
 -- what a list says of a number, and else what the rest says
 unfoldable pub said : ℕ → List Meaning → List ℕ → List ℕ
 said n [] rest = rest
@@ -69,8 +77,11 @@ said n ((k means words) ∷ ms) rest = pick (eqb n k) (bytes words) (said n ms r
 unfoldable pub otherMeaning : ℕ → List ℕ
 otherMeaning n = said n otherMeanings (bytes "no rule has this number")
 
+unfoldable pub listingMeaning : ℕ → List ℕ
+listingMeaning n = said n listingMeanings (otherMeaning n)
+
 unfoldable pub libraryMeaning : ℕ → List ℕ
-libraryMeaning n = said n libraryMeanings (otherMeaning n)
+libraryMeaning n = said n libraryMeanings (listingMeaning n)
 
 unfoldable pub verifyMeaning : ℕ → List ℕ
 verifyMeaning n = said n verifyMeanings (libraryMeaning n)

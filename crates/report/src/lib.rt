@@ -8,7 +8,7 @@ ghost use lib.ListN.{length};
 ghost use Rattle.verify.specs.Calls.{measuredAnswer};
 ghost use Rattle.text.specs.Text.{inFront};
 ghost use Rattle.text.specs.Writing.{Wrote};
-ghost use Rattle.report.specs.Meanings.{otherMeaning, libraryMeaning, verifyMeaning, circuitMeaning, meaning};
+ghost use Rattle.report.specs.Meanings.{otherMeaning, listingMeaning, libraryMeaning, verifyMeaning, circuitMeaning, meaning};
 ghost use Rattle.report.specs.Report.{passedLine, times, readyLine, passedText, refusedText, reportOf};
 
 fn put_other_meaning(out: &mut [u8], i: usize, code: u8) -> usize
@@ -36,6 +36,26 @@ fn put_other_meaning(out: &mut [u8], i: usize, code: u8) -> usize
     }
 }
 
+fn put_listing_meaning(out: &mut [u8], i: usize, code: u8) -> usize
+    requires { ⌜ i + 64 ≤ length (now out) ⌝ }
+    ensures { λ r. ⌜ Wrote (now (out .entry)) i (listingMeaning code) (now (out .exit)) r ⌝ }
+{
+    match code {
+        32 => put_text(
+            out,
+            i,
+            b"the wires are not 3 or 4, or the window is not 2 to 4 gates",
+        ),
+        33 => put_text(out, i, b"the list has more than 4,096 gates"),
+        34 => put_text(
+            out,
+            i,
+            b"a gate of the list is not lawful, or has three controls",
+        ),
+        _ => put_other_meaning(out, i, code),
+    }
+}
+
 fn put_library_meaning(out: &mut [u8], i: usize, code: u8) -> usize
     requires { ⌜ i + 64 ≤ length (now out) ⌝ }
     ensures { λ r. ⌜ Wrote (now (out .entry)) i (libraryMeaning code) (now (out .exit)) r ⌝ }
@@ -52,7 +72,7 @@ fn put_library_meaning(out: &mut [u8], i: usize, code: u8) -> usize
             b"an entry's gate, duration or place in the order is not lawful",
         ),
         31 => put_text(out, i, b"the circuit has a gate that is not in the library"),
-        _ => put_other_meaning(out, i, code),
+        _ => put_listing_meaning(out, i, code),
     }
 }
 

@@ -29,7 +29,7 @@ pub fn put_text(out: &mut [u8], i: usize, text: &[u8]) -> usize
 }
 
 // Writes the digit of one place, if the number reaches it.
-fn put_place(out: &mut [u8], i: usize, n: usize, p: usize) -> usize
+pub fn put_place(out: &mut [u8], i: usize, n: usize, p: usize) -> usize
     requires { ⌜ i < length (now out) ⌝ }
     requires { ⌜ 0 < p ⌝ }
     ensures { λ r. ⌜ Wrote (now (out .entry)) i (place n p) (now (out .exit)) r ⌝ }
@@ -67,7 +67,7 @@ fn hex_digit(d: u8) -> u8
     if d < 10 { 48 + d } else { 55 + d }
 }
 
-fn put_hex(out: &mut [u8], i: usize, bytes: &[u8]) -> usize
+pub fn put_hex(out: &mut [u8], i: usize, bytes: &[u8]) -> usize
     requires { ⌜ i + 2 * length (now bytes) ≤ length (now out) ⌝ }
     ensures { λ r. ⌜ Wrote (now (out .entry)) i (hexOf (now (bytes .entry))) (now (out .exit)) r ⌝ }
 {

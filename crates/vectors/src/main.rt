@@ -4,12 +4,14 @@ use approximate::Nearest;
 use batch::Batched;
 use libc::STDOUT_FILENO;
 use parity::TableParity;
+use peephole::Rewritten;
 use record::Checked;
 use search::Searched;
 use sensitivity::Change;
 use verify::Measured;
 use verify::Measures;
 use verify::Ran;
+use windows::Prices;
 ghost use mathlib.Core.Path.{_≡_};
 ghost use Prim.Native.Nat.{_+_, _≤_, _<_, min};
 ghost use lib.ListN.{length};
@@ -31,6 +33,7 @@ fn main() {
     run_file(b"batches");
     run_file(b"prices");
     run_file(b"closest");
+    run_file(b"listings");
 }
 
 fn say(text: &[u8]) {
@@ -119,11 +122,12 @@ fn is_name(letter: u8, name: &[u8]) -> bool {
         b'd' => same(name, b"difference"),
         b'g' => same(name, b"gap"),
         b'n' => same(name, b"nearest"),
+        b'r' => same(name, b"rewrite"),
         _ => false,
     }
 }
 
-// What stands after the first word: a byte for a run and two searches, a record, a library or a length for seven calls, nothing for the others.
+// What stands after the first word: a byte for a run and two searches, a record, a library, gates or a length for eight calls, nothing for the others.
 fn second_ok(letter: u8, rest: &[u8]) -> bool {
     match letter {
         b'f' => is_byte(rest),
@@ -137,16 +141,19 @@ fn second_ok(letter: u8, rest: &[u8]) -> bool {
         b't' => is_word(rest),
         b'd' => is_word(rest),
         b'g' => is_word(rest),
+        b'r' => is_word(rest),
         _ => rest.len() == 0,
     }
 }
 
-// What stands after the second word: a space, and then a byte for a search with a library and for a batch, a record for verifying with one.
+// What stands after the second word: a space, and then a byte for a search with a library and for a batch, a record for verifying
+// with one, and a length for rewriting.
 fn third_ok(letter: u8, rest: &[u8]) -> bool {
     match letter {
         b'a' => is_byte(&rest[past(rest, 0)..]),
         b'w' => is_word(&rest[past(rest, 0)..]),
         b't' => is_byte(&rest[past(rest, 0)..]),
+        b'r' => is_word(&rest[past(rest, 0)..]),
         _ => rest.len() == 0,
     }
 }
@@ -239,6 +246,7 @@ fn dispatch(letter: u8, first: &[u8], second: &[u8], third: &[u8]) {
         b'd' => say_change(sensitivity::price_change(first, second)),
         b'g' => say_difference(sensitivity::cost_difference(cost_in(first), cost_in(second))),
         b'n' => say_closest(first, logic::at(second, 0)),
+        b'r' => say_rewrite(first, second, third),
         _ => say(b"unknown"),
     }
 }
@@ -505,6 +513,56 @@ fn say_batched(answer: Batched) {
 
 fn say_jobs(count: usize) {
     say(b"jobs ");
+    io::print_decimal(STDOUT_FILENO, count as u64);
+}
+
+// Rewrites the gates, over and over until there are as many as two bytes say, and writes the answer and the whole list.
+fn say_rewrite(setting: &[u8], gates: &[u8], size: &[u8]) {
+    let n = 256 * logic::wide(logic::at(size, 0)) + logic::wide(logic::at(size, 1));
+    let mut list = io::large_buffer();
+    rewrite_into(setting, gates, &mut list, n);
+}
+
+fn rewrite_into(setting: &[u8], gates: &[u8], list: &mut [u8], n: usize) {
+    if n <= list.len() {
+        rewrite_whole(setting, gates, &mut list[..n]);
+    }
+}
+
+fn rewrite_whole(setting: &[u8], gates: &[u8], list: &mut [u8]) {
+    repeat(gates, list);
+    let prices = Prices {
+        not: logic::at(setting, 2),
+        cnot: logic::at(setting, 3),
+        toffoli: logic::at(setting, 4),
+    };
+    say_rewritten(peephole::rewrite(logic::at(setting, 0), logic::at(setting, 1), prices, list));
+    say(b" ");
+    say_bytes(list);
+}
+
+// Byte i becomes gate i; after the last gate comes the first one again, and where there is none 0.
+fn repeat(gates: &[u8], list: &mut [u8]) {
+    let mut i = 0;
+    while i < list.len() {
+        list[i] = logic::at(gates, remainder(i, gates.len()));
+        i += 1;
+    }
+}
+
+fn remainder(i: usize, n: usize) -> usize {
+    if n == 0 { 0 } else { i % n }
+}
+
+fn say_rewritten(answer: Rewritten) {
+    match answer {
+        Rewritten::Refused(code) => say_refused(code),
+        Rewritten::Gates(count) => say_gates(count),
+    }
+}
+
+fn say_gates(count: usize) {
+    say(b"gates ");
     io::print_decimal(STDOUT_FILENO, count as u64);
 }
 

@@ -26,7 +26,7 @@ returns-4 c =
     let m = p .before .before in
     let x = m .before .before .args .code in
     let r = m .match .rest in
-    rw (ne-eqb x 29 (r .0 .0 .1), ne-eqb x 30 (r .0 .1), ne-eqb x 31 (r .1)) (p .put-other-meaning .ensures)
+    rw (ne-eqb x 29 (r .0 .0 .1), ne-eqb x 30 (r .0 .1), ne-eqb x 31 (r .1)) (p .put-listing-meaning .ensures)
 
 pub put-library-meaning-spec : {M : Type 1} → statement M
 put-library-meaning-spec =

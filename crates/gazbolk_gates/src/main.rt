@@ -1,0 +1,4 @@
+// The same program, on a list with a gate of three controls.
+fn main() {
+    commands::run();
+}

@@ -1,0 +1,33 @@
+-- What the scan finds. No public contract cites this.
+use mathlib.Core.Path.{_≡_}
+use mathlib.Core.Bool.{true, false}
+use mathlib.Core.List.{List, [], _∷_}
+use mathlib.Core.Option.{Option, none, some}
+use Prim.Native.Nat.{ℕ, _+_, _*_, _≤_}
+use lib.ListN.{length, take, drop}
+use Rattle.logic.specs.Rules.{pick}
+use Rattle.windows.specs.declared.Prices.{Prices}
+use Rattle.windows.specs.Windows.{windowAt, replaced}
+use Rattle.windows.specs.Inner.{Still}
+use Rattle.peephole.specs.declared.Offer.{Offer}
+use Rattle.peephole.specs.declared.Hit.{Hit}
+
+-- the twelve bytes before the table of a window's job
+abbrev pub jobHead : ℕ → Prices → ℕ → List ℕ
+jobHead n p len = 32 * n ∷ len ∷ 255 ∷ 255 ∷ 255 ∷ 255 ∷ p .not ∷ p .cnot ∷ p .toffoli ∷ 1 ∷ 1 ∷ 1 ∷ []
+
+-- the gates on offer, where they are cheaper
+unfoldable pub offered : Offer → Option (List ℕ)
+offered o = pick (o .cheaper) (some (take (o .len) (drop 3 (o .bytes)))) none
+
+-- a hit is the first window that yields, with its answer
+pub record First (yields : List ℕ → Option (List ℕ)) (k : ℕ) (l : List ℕ) (h : Hit) : Type 0 where
+  pub fits : h .at + k ≤ length l
+  pub short : h .len ≤ 12
+  pub before : Still yields k (h .at) l
+  pub yielded : yields (windowAt k (h .at) l) ≡ some (take (h .len) (drop 3 (h .bytes)))
+
+-- a scan of the whole list: a hit is the first window that yields, and without one no window does
+pub record Scanned (yields : List ℕ → Option (List ℕ)) (k : ℕ) (l : List ℕ) (h : Hit) : Type 0 where
+  pub hit : h .found ≡ true → First yields k l h
+  pub missed : h .found ≡ false → replaced yields k l ≡ none

@@ -1,0 +1,9 @@
+pub mod Leftmost
+pub mod Repeats
+pub mod Asked
+pub mod Answers
+pub mod Steps
+pub mod Promises
+pub mod Scans
+pub mod Buffers
+pub mod Calls

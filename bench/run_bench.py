@@ -70,15 +70,12 @@ def small_jobs():
 
 
 def sbox_jobs(tables, with_ancilla):
-    """Name of the job, its bytes, and those of the same job at unit prices. A table with several names comes once."""
+    """Name of the job and its bytes. A table with several names comes once."""
     plain = [(names[0], LIMIT, 0, free) for names in by_table(tables).values() for free in (0, 1)]
     for name, limit, m, free in plain + [(name, limit, 1, 1) for name, limit in with_ancilla]:
-        def record(prices):
-            return job(sbox(name), limit, m=m, free=free, prices=prices)
-
         for prices in (UNIT, (1, 1, 5)):
             words = [name] + ["m=1", str(limit)] * m + ["free" if free else "fixed", ",".join(map(str, prices))]
-            yield " ".join(words), record(prices), record(UNIT)
+            yield " ".join(words), job(sbox(name), limit, m=m, free=free, prices=prices)
 
 
 def timed(command, text, cap, codes=(0,)):
@@ -153,44 +150,52 @@ def table(columns, jobs, cap, repeat):
     return agreed
 
 
+def questions(record, line, direct):
+    """The two questions for the solver, and whether each should be answered yes: at prices 1,1,1 "at most K gates?" and "at most
+    K - 1?", where the line says K; at others "within the gate limit, at most C?" and "at most C - 1?", where it says the cost C.
+    For the line "none" only whether the gate limit is enough."""
+    n, m, free, rows, limit = record[0] >> 5, record[0] >> 3 & 3, record[0] >> 2 & 1, record[12:], record[1]
+    prices = tuple(record[6:9])
+
+    def question(most, cost=None):
+        return sat.Question(n, m, free, rows, most, direct, cost)
+
+    if not line.startswith("found"):
+        return [None, (question(limit), False)]
+    gates, cost = map(int, line.split()[1:3])
+    if prices == UNIT:
+        return [(question(gates), True), (question(gates - 1), False) if gates else None]
+    return [(question(limit, (most, prices[0], prices[2])), most == cost) if most >= 0 else None for most in (cost, cost - 1)]
+
+
 def sat_pair(solver, direct, record, line, cap, repeat):
-    """The solver's runs on "at most K gates?" and "at most K - 1?", where the line (the answer at
-    unit prices) says K, and what is wrong with its answers ("" if nothing). For the line "none"
-    the first is left out."""
-    n, m, free, rows = record[0] >> 5, record[0] >> 3 & 3, record[0] >> 2 & 1, record[12:]
-    found = line.startswith("found")
-    least = int(line.split()[1]) if found else record[1] + 1
-    runs, wrong = [None, None], ""
-    for i, most in ((0, least), (1, least - 1)):
-        if i == 0 and not found or most < 0:
+    """The solver's runs on both questions, and what is wrong with its answers ("" if nothing)."""
+    runs, wrong = [], ""
+    for asked in questions(record, line, direct):
+        if not asked:
+            runs.append(None)
             continue
-        question = sat.Question(n, m, free, rows, most, direct)
-        runs[i] = best_of([solver, "-q"], question.dimacs(), cap, repeat, codes=(10, 20))
-        if runs[i].capped:
+        question, enough = asked
+        run = best_of([solver, "-q"], question.dimacs(), cap, repeat, codes=(10, 20))
+        runs.append(run)
+        if run.capped:
             continue
-        yes = "s SATISFIABLE" in runs[i].output
-        if yes != (i == 0):
-            wrong = f"SAT: at most {most} gates is {'' if yes else 'not '}enough"
-        elif yes and not sat.realizes(n, free, rows, question.circuit(runs[i].output)):
+        yes = "s SATISFIABLE" in run.output
+        if yes != enough:
+            wrong = f"SAT says {'yes' if yes else 'no'}"
+        elif yes and not sat.realizes(question.n, question.free, question.rows, question.circuit(run.output)):
             wrong = "SAT: the circuit doesn't realize the table"
     return runs, wrong
 
 
 def sbox_table(proved, plain, solver, direct, jobs, cap, repeat):
     """Prints the table of the S-boxes; a missing program is None. True if all agree."""
-    print(f"{'job':{WIDTH}}{'proved':>10}{'plain':>10}{'ratio':>9}{'sat K':>10}{'sat K-1':>10}{'sat/proved':>11}  answer")
-    agreed, least, pairs = True, {}, {}
-    for name, record, unit in jobs:
+    print(f"{'job':{WIDTH}}{'proved':>10}{'plain':>10}{'ratio':>9}{'sat yes':>10}{'sat no':>10}{'sat/proved':>11}  answer")
+    agreed = True
+    for name, record in jobs:
         runs = [best_of(command, record, cap, repeat) if command else None for command in (proved, plain)]
         ended = [run for run in runs if run and not run.capped]
-        if record == unit and ended:
-            least[unit] = ended[0].output
-        if solver and unit not in pairs:
-            if unit not in least:
-                run = timed([plain[0], "--rules", "max"], unit, cap)
-                least[unit] = None if run.capped else run.output
-            pairs[unit] = sat_pair(solver, direct, unit, least[unit], cap, repeat) if least[unit] else ([], "")
-        pair, wrong = pairs.get(unit, ([], ""))
+        pair, wrong = sat_pair(solver, direct, record, ended[0].output, cap, repeat) if solver and ended else ([], "")
         answer = " ".join(filter(None, [answer_text(ended), wrong]))
         agreed = agreed and not wrong and "DIFFERENT" not in answer
         times = [seconds_text(run, cap) for run in runs + (pair or [None, None])]
@@ -202,10 +207,9 @@ def sbox_table(proved, plain, solver, direct, jobs, cap, repeat):
 
 SBOX_HEADER = """\
 proved, plain: the proved program and plain.rs at --rules {rules}; ratio: the first over the second.
-sat K, sat K-1: cadical on "is there a circuit of at most K gates?" (yes) and "of at most K - 1?" (no),
-where K is the least number of gates. It is told K: from the answer at prices 1,1,1 of the proved
-program, else of plain.rs, else of plain.rs --rules max (not timed). Both are questions on the number
-of gates alone, so they are asked once for a layout, and the rows of other prices show them again.
+sat yes, sat no: cadical on two questions, whose numbers it is told from the answer in the same row. At prices 1,1,1: is there a
+circuit of at most K gates, and of at most K - 1, where K is the least number of gates? At others: is there one within the gate limit
+that costs at most C, and at most C - 1, where C is the least cost? For "none": is there one within the gate limit?
 The CNF is sat.py's {encoding} encoding; its making isn't counted. sat/proved: both questions together over proved.
 >= or <=: one side was ended at the cap (wall clock), and the ratio is a bound from the seconds it had used."""
 

@@ -1,4 +1,4 @@
-"""The question "is there a circuit of at most K gates?" for a SAT solver, as a CNF.
+"""The question "is there a circuit of at most K gates?", or "and of at most so much cost?", for a SAT solver, as a CNF.
 
 A CNF is a list of clauses, a clause a list of literals: a variable, or minus it. Variables:
  - one for each position and lawful gate, and one for the position left idle: exactly one is on
@@ -12,6 +12,8 @@ neighbouring gates that commute the first has the lower byte (a circuit of fewes
 an order, and no gate twice in a row), which is the only symmetry broken.
 With `direct` the helpers and the order are left out, and each gate says itself what it does to
 each wire: the first encoding that comes to mind.
+With a cost, a NOT and a CNOT have one price and a Toffoli a price that is no lower: then t Toffolis leave room for so
+many gates in all, and a unary count of the Toffolis puts every position past that to idle.
 """
 
 
@@ -30,9 +32,10 @@ def commute(a, b):
 
 
 class Question:
-    """At most `positions` gates for the table of a job's row bytes (care mask, value)."""
+    """At most `positions` gates for the table of a job's row bytes (care mask, value); with `cost`, a limit and the prices of
+    a light gate and of a Toffoli, at most so much cost too."""
 
-    def __init__(self, n, m, free, rows, positions, direct=False):
+    def __init__(self, n, m, free, rows, positions, direct=False, cost=None):
         self.n, self.free, self.rows, self.direct = n, free, rows, direct
         self.wires = n + m
         self.gates = lawful_gates(self.wires)
@@ -44,6 +47,8 @@ class Question:
         for position in range(positions):
             self.choose(position)
             (self.step_directly if direct else self.step)(position)
+        if cost:
+            self.limit_cost(*cost)
         self.end()
 
     def fresh(self, count):
@@ -118,6 +123,28 @@ class Question:
                     self.say(kept, old, -new)
                 self.say(-target, held, old, new)
                 self.say(-target, held, -old, -new)
+
+    def limit_cost(self, limit, light, heavy):
+        """t Toffolis among g gates cost light * g + (heavy - light) * t."""
+        assert 0 < light <= heavy
+        positions = len(self.choices)
+        heavies = [self.any_of([v for g, v in zip(self.gates, row) if bin(g & 31).count("1") == 2]) for row in self.choices]
+        at_least = []  # at_least[t - 1]: t of the positions so far hold a Toffoli
+        for one in heavies:
+            counts = self.fresh(len(at_least) + 1)
+            for t, count in enumerate(counts):
+                if t < len(at_least):
+                    self.say(-at_least[t], count)
+                self.say(*([-at_least[t - 1]] if t else []), -one, count)
+            at_least = counts
+        for t in range(positions + 1):
+            left = limit - (heavy - light) * t
+            most = left // light if left >= 0 else -1
+            has = [-at_least[t - 1]] if t else []
+            if most < t:
+                self.say(*has)
+            elif most < positions:
+                self.say(*has, self.idle[most])
 
     def end(self):
         n = self.n

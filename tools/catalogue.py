@@ -2,7 +2,8 @@
 
 usage: python3 tools/catalogue.py BIN_FOLDER OUT [--cap SECONDS] [--ancilla-cap SECONDS] [--only NAME]
 
-BIN_FOLDER has `main` and `gazbolk` (target/bin), OUT is the page (docs/CATALOGUE.md). Each job is searched with
+BIN_FOLDER has `main` and `gazbolk` (target/bin), OUT is the page: docs/CATALOGUE.md has the groups `ciphers` and `three`,
+docs/CATALOGUE-003.md `related` and `classes`. Each job is searched with
 `gazbolk search`, each circuit found is checked with `gazbolk verify`, and the command that the page gives for a
 row is run as well where the search took at most AGAIN seconds. Anything unexpected ends the script with an error.
 A search of more than --cap processor seconds (default 600), with an ancilla --ancilla-cap (default 240), is ended, and
@@ -112,7 +113,7 @@ HEAD = """\
 The cheapest circuits of the 3- and 4-bit S-boxes in the papers 002 and 003, as the proved program prints them. This page is written by
 [tools/catalogue.py](../tools/catalogue.py). No answer on it is typed in; the tables asked about and the papers' counts are.
 
-    python3 tools/catalogue.py target/bin docs/CATALOGUE.md
+    {command}
 
 ## How to read it
 
@@ -138,7 +139,7 @@ the gate passes over. x0 to x3 are the inputs and y0 to y3 the outputs; an ancil
 |---|---|---|
 | a circuit | [found-is](../crates/search/proofs/Facts.antt) | what is found realizes the table within the limits, and every other that does comes after it in the order and costs no less |
 | none within {limit} gates | [none-is](../crates/search/proofs/Facts.antt) | 14 is answered exactly when no list with an allowed layout solves the job |
-| none of any length | [odd-none](../crates/search/proofs/Facts.antt), [none-realizes](../crates/parity/proofs/Never.antt) | on four data wires without an ancilla no list of these gates realizes an odd table |
+| none of any length | [odd-none](../crates/search/proofs/Facts.antt), [none-realizes](../crates/odd_tables/proofs/Never.antt) | on four data wires without an ancilla no list of these gates realizes an odd table |
 
 The words of the theorems are definitions: `Admitted`, `Solves` and `Winner` in [Demand.antt](../crates/problem/specs/Demand.antt), over the problem of
 [Problems.antt](../crates/problem/specs/Problems.antt). Search and verify are tied together in [Verified.antt](../crates/search/proofs/Verified.antt):
@@ -414,9 +415,9 @@ def wanted(only, group, names):
     return not only or group in only or any(name in only for name in names)
 
 
-def page(groups):
+def page(groups, command):
     late = sum(row.answer.word == "late" for entries in groups.values() for entry in entries for row in entry.rows)
-    head = HEAD.format(limit=LIMIT, durations=", ".join(map(str, DURATIONS)), again=AGAIN, late=LATE if late else "")
+    head = HEAD.format(limit=LIMIT, durations=", ".join(map(str, DURATIONS)), again=AGAIN, late=LATE if late else "", command=command)
     lines = [head, *overview(groups)]
     for group, entries in groups.items():
         heading, _, note = GROUPS[group]
@@ -429,12 +430,13 @@ def page(groups):
 def write_pages(program, only, caps, out):
     """Searches for one S-box after the other, and writes the page after each."""
     groups = {}
+    command = " ".join(["python3 tools/catalogue.py target/bin", os.path.join("docs", os.path.basename(out))] + [f"--only {name}" for name in only])
     for group, (_, tables, _) in GROUPS.items():
         for digits, names in jobs.by_table(tables).items():
             if wanted(only, group, names):
                 groups.setdefault(group, []).append(entry_of(program, names, digits, group, caps))
                 with open(out, "w") as file:
-                    file.write(page(groups))
+                    file.write(page(groups, command))
 
 
 def main():

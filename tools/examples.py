@@ -69,6 +69,9 @@ THREE = 0x67
 # wire 0 added to wire 2, its neighbour's neighbour
 ACROSS = 0x41
 
+# a file that is not there
+ABSENT = "absent.circuit"
+
 
 def gates_of(text):
     """The gate bytes of a text with no ancilla."""
@@ -208,29 +211,33 @@ def main():
     }
     for name, content in files.items():
         put("examples", name, content)
-    runs = {
-        "gazbolk": ("verify", "gift.job", "gift.circuit"),
-        "gazbolk_text": ("verify", "gift.job", "gift.real"),
-        "gazbolk_refused": ("verify", "gift.job", "example4.real"),
-        "gazbolk_listed": ("verify", "across.job", "across.circuit", "line.library"),
-        "gazbolk_search": ("search", "across.job"),
-        "gazbolk_library": ("search", "across.job", "line.library"),
-        "gazbolk_none": ("search", "across3.job", "line.library"),
-        "gazbolk_batch": ("batch", "morning.batch"),
-        "gazbolk_cut": ("batch", "cut.batch"),
-        "gazbolk_compare": ("compare", "cnot1.job", "cnot5.job"),
-        "gazbolk_unlike": ("compare", "across.job", "across3.job"),
-        "gazbolk_closest": ("closest", "swap2.job"),
-        "gazbolk_rewrite": ("rewrite", "twice.gates"),
-        "gazbolk_gates": ("rewrite", "three.gates"),
-    }
-    for crate, (command, *names) in runs.items():
-        folder = os.path.join("crates", crate)
+    commands = [
+        ("verify", "gift.job", "gift.circuit"),
+        ("verify", "gift.job", "gift.real"),
+        ("verify", "gift.job", "example4.real"),
+        ("verify", "gift.job", ABSENT),
+        ("verify", "across.job", "across.circuit", "line.library"),
+        ("search", "across.job"),
+        ("search", "across.job", "line.library"),
+        ("search", "across3.job", "line.library"),
+        ("batch", "morning.batch"),
+        ("batch", "cut.batch"),
+        ("compare", "cnot1.job", "cnot5.job"),
+        ("compare", "across.job", "across3.job"),
+        ("closest", "swap2.job"),
+        ("rewrite", "twice.gates"),
+        ("rewrite", "three.gates"),
+    ]
+    says = {"verify": verdict, "search": finding, "batch": lines, "compare": change, "closest": nearest, "rewrite": rewriting}
+    printed = ""
+    for command, *names in commands:
         for name in names:
-            put(os.path.join(folder, "data"), name, files[name])
-        put(folder, "args", "\n".join([command, *names]) + "\n")
-        contents = [records.get(name, files[name]) for name in names]
-        put(folder, "stdout", {"verify": verdict, "search": finding, "batch": lines, "compare": change, "closest": nearest, "rewrite": rewriting}[command](*contents))
+            if name != ABSENT:
+                put(os.path.join("crates", "gazbolk", "data"), name, files[name])
+        absent = "unreadable %s\n" % ABSENT if ABSENT in names else ""
+        printed += absent or says[command](*[records.get(name, files[name]) for name in names])
+    put(os.path.join("crates", "gazbolk"), "args", "\nthen\n".join("\n".join(words) for words in commands) + "\n")
+    put(os.path.join("crates", "gazbolk"), "stdout", printed)
     for asked in ("gift.job", "example4.job"):
         for given in records:
             print(asked, given, verdict(files[asked], records[given]).replace("\n", " "))

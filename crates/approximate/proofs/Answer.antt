@@ -7,9 +7,9 @@ use Prim.Native.Nat.{ℕ}
 use borrow.Author.Tests.{ne-eqb}
 use lib.ListN.{take}
 use Rattle.logic.specs.Answers.{Answer, refused, answered}
-use Rattle.record.specs.Jobs.{dataWires, rows, priceOf, durationOf}
-use Rattle.verify.specs.declared.Measures.{Measures}
-use Rattle.verify.specs.Calls.{measuresOf}
+use Rattle.fields.specs.Jobs.{dataWires, rows, priceOf, durationOf}
+use Rattle.measures.specs.declared.Measures.{Measures}
+use Rattle.measures.specs.Measures.{measuresOf}
 use Rattle.choice.specs.declared.Best.{Best}
 use Rattle.choice.specs.Choices.{Choice}
 use Rattle.choice.specs.Inner.{choice, view}

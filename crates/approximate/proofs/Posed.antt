@@ -9,7 +9,8 @@ use Rattle.gate.specs.Gates.{lawful}
 use Rattle.gate.proofs.Widen.{widen}
 use Rattle.circuit.specs.Inner.{columnsAfter}
 use Rattle.table.specs.Rows.{realizes}
-use Rattle.record.specs.Jobs.{longer, mostControls, dataWires, wires, rows, jobCode}
+use Rattle.record.specs.JobRules.{jobCode}
+use Rattle.fields.specs.Jobs.{longer, mostControls, dataWires, wires, rows}
 use Rattle.record.proofs.Kept.{sound-job, wires-within, two-or-three}
 use Rattle.columns.specs.Wanted.{wantedOf, startColumns}
 use Rattle.problem.specs.Problems.{Problem, firstGood}

@@ -16,13 +16,14 @@ use Rattle.logic.specs.Answers.{Answer, refused, answered}
 use Rattle.logic.proofs.Chain.{both-parts, both-true, rule-never, and-then-never}
 use Rattle.logic.proofs.Members.{among-nil}
 use Rattle.circuit.specs.Measure.{greatest}
-use Rattle.table.specs.Layouts.{Width, layoutOk, plain, allowed, layoutsFor}
+use Rattle.layouts.specs.Layouts.{Width, layoutOk, plain, allowed, layoutsFor}
 use Rattle.table.specs.Rows.{clean, realizes}
-use Rattle.table.proofs.Layouts.{layout-has}
+use Rattle.layouts.proofs.Layouts.{layout-has}
 use Rattle.table.proofs.Rows.{bare-clean}
-use Rattle.record.specs.Jobs.{dataWires, freeLayout, rows, priceOf, durationOf, jobLengthOk, sizeOk, headOk, limitOk, durationsOk, rowsOk, jobCode}
+use Rattle.record.specs.JobRules.{jobLengthOk, sizeOk, headOk, limitOk, durationsOk, rowsOk, jobCode}
+use Rattle.fields.specs.Jobs.{dataWires, freeLayout, rows, priceOf, durationOf}
 use Rattle.record.proofs.Kept.{sound-job}
-use Rattle.verify.specs.Calls.{measuresOf}
+use Rattle.measures.specs.Measures.{measuresOf}
 use Rattle.choice.specs.Choices.{Choice}
 use Rattle.problem.specs.Problems.{choiceOf, choices, good, firstGood}
 use Rattle.problem.specs.Demand.{Admitted, Solves}

@@ -6,7 +6,7 @@ use native.Mathlib.Omega.{arith}
 use lib.ListN.{length, take, drop}
 use lib.Seq.{take-at}
 use Rattle.logic.specs.Answers.{Answer, refused, answered}
-use Rattle.verify.specs.declared.Measures.{Measures}
+use Rattle.measures.specs.declared.Measures.{Measures}
 use Rattle.search.specs.Outcomes.{Reported, written}
 use Rattle.approximate.specs.declared.Nearest.{Nearest}
 use Rattle.approximate.specs.declared.Nearest.the-variants.{Refused, Found}

@@ -6,7 +6,7 @@ use lib.Dec.{eqb}
 use lib.ListN.{length}
 use Rattle.logic.specs.Rules.{pick}
 use Rattle.logic.specs.Answers.{Answer, refused, answered}
-use Rattle.record.specs.Jobs.{dataWires, rows}
+use Rattle.fields.specs.Jobs.{dataWires, rows}
 use Rattle.choice.specs.Choices.{Choice}
 use Rattle.misses.specs.Misses.{missedIn, fewestMisses, closestChoice}
 use Rattle.search.specs.Outcomes.{ownSet, problemOf, Found, foundOf, Reported, reported, searchCode}

@@ -4,7 +4,7 @@ use mathlib.Core.Bool.{true}
 use mathlib.Core.Logic.{_⊎_}
 use mathlib.Core.List.{List}
 use Prim.Native.Nat.{ℕ, _≤_}
-use Rattle.record.specs.Jobs.{dataWires, rows}
+use Rattle.fields.specs.Jobs.{dataWires, rows}
 use Rattle.choice.specs.Choices.{before}
 use Rattle.problem.specs.Problems.{choiceOf}
 use Rattle.problem.specs.Demand.{Solves}

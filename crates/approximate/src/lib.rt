@@ -1,11 +1,12 @@
 // The public call for the closest circuit: the one that misses the fewest wanted bits, where none within the limits realizes the table.
 use choice::Best;
+use measures::Measures;
 use search::Searched;
-use verify::Measures;
 ghost use mathlib.Core.Path.{_≡_};
 ghost use Prim.Native.Nat.{_≤_};
 ghost use lib.ListN.{length};
-ghost use Rattle.record.specs.Jobs.{dataWires, rows, jobCode};
+ghost use Rattle.record.specs.JobRules.{jobCode};
+ghost use Rattle.fields.specs.Jobs.{dataWires, rows};
 ghost use Rattle.choice.specs.Inner.{view};
 ghost use Rattle.problem.specs.Problems.{firstGood};
 ghost use Rattle.misses.specs.Misses.{missingAtMost};

@@ -4,7 +4,7 @@ use mathlib.Core.List.{List}
 use Prim.Native.Nat.{ℕ}
 use lib.Dec.{eqb}
 use Rattle.logic.specs.Rules.{both}
-use Rattle.record.specs.Jobs.{mostControls, dataWires, ancillas}
+use Rattle.fields.specs.Jobs.{mostControls, dataWires, ancillas}
 use Rattle.parity.specs.Parity.{isOdd, tableParity}
 
 -- four data wires, no ancilla, gates of at most two controls, an odd permutation

@@ -10,8 +10,8 @@ ghost use Rattle.asking.specs.Odd.{alwaysNone};
 pub fn always_none(job: &[u8]) -> bool
     ensures { λ r. ⌜ r ≡ alwaysNone (now (job .entry)) ⌝ }
 {
-    let bare = logic::both(record::data_wires(job) == 4, record::ancillas(job) == 0);
-    let odd = logic::both(record::most_controls(job) == 2, parity::odd_table(job));
+    let bare = logic::both(fields::data_wires(job) == 4, fields::ancillas(job) == 0);
+    let odd = logic::both(fields::most_controls(job) == 2, parity::odd_table(job));
     logic::both(bare, odd)
 }
 

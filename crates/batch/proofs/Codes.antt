@@ -9,7 +9,7 @@ use Rattle.logic.specs.Rules.{both, rule}
 use Rattle.logic.specs.Lists.{total}
 use Rattle.logic.specs.Answers.{refused, answered}
 use Rattle.logic.proofs.Chain.{both-parts, rule-kept}
-use Rattle.batch.specs.Records.{recordsOf, countOf, allCut}
+use Rattle.cutting.specs.Records.{recordsOf, countOf, allCut}
 use Rattle.batch.specs.Batches.{roomOk, batchCode, batchOf, cellsAfter, statusesAfter, answersLeft, statusesLeft}
 
 -- the rules, by the number of records and where the last one ends

@@ -11,9 +11,9 @@ use Rattle.search.specs.declared.Searched.{Searched}
 use Rattle.search.specs.declared.Searched.the-variants.{Refused, Found}
 use Rattle.search.specs.Outcomes as outcomes
 use Rattle.search.specs.Outcomes.{reported, written, searchedAnswer}
-use Rattle.batch.specs.Records.{recordSize, records}
+use Rattle.cutting.specs.Records.{recordSize, records}
 use Rattle.batch.specs.Batches.{aloneOf, statusOf, cellsAfter, statusesAfter}
-use Rattle.batch.proofs.Cutting.{rest-is, one-here}
+use Rattle.cutting.proofs.Cutting.{rest-is, one-here}
 use Rattle.batch.proofs.Cells.{cell-stays}
 
 -- the status that goes with an answer of the search

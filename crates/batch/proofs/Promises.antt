@@ -15,13 +15,13 @@ use Rattle.logic.specs.Lists.{total}
 use Rattle.logic.specs.Answers.{Answer, refused, answered}
 use Rattle.logic.proofs.Answers.{answered-is, answered-with}
 use Rattle.logic.proofs.Chain.{rule-kept}
-use Rattle.record.specs.Jobs.{dataWires, longer}
+use Rattle.fields.specs.Jobs.{dataWires, longer}
 use Rattle.search.specs.Outcomes.{Found, searchOf, written}
-use Rattle.batch.specs.Records.{sizeSaid, recordSize, records, recordsOf, countOf, jobAt, allCut}
+use Rattle.cutting.specs.Records.{sizeSaid, recordSize, records, recordsOf, countOf, jobAt, allCut}
 use Rattle.batch.specs.Batches.{roomOk, batchCode, batchOf, statusOf, cellsAfter, statusesAfter, answersLeft, statusesLeft, cellAt}
 use Rattle.batch.proofs.Cells.{cells-at, cells-beyond, status-at, statuses-beyond}
 use Rattle.batch.proofs.Codes.{rooms, refusing, searching}
-use Rattle.batch.proofs.Joined.{Shaped, shape, joined, joined-front}
+use Rattle.cutting.proofs.Joined.{Shaped, shape, joined, joined-front}
 use Rattle.batch.proofs.Statuses.{status-never}
 
 -- A batch of no bytes has 0 jobs.

@@ -10,13 +10,13 @@ use borrow.Author.Tests.{ne-eqb}
 use Rattle.logic.specs.Rules.{rule}
 use Rattle.logic.specs.Answers.{refused}
 use Rattle.logic.proofs.Chain.{rule-never}
-use Rattle.record.specs.Jobs.{jobLengthOk, sizeOk, headOk, limitOk, durationsOk, rowsOk, jobCode}
+use Rattle.record.specs.JobRules.{jobLengthOk, sizeOk, headOk, limitOk, durationsOk, rowsOk, jobCode}
 use Rattle.codes.specs.Codes.{searchCode}
 use Rattle.search.specs.Outcomes.{ownSet, searchOf}
 use Rattle.search.proofs.Facts.{answers}
 use Rattle.search.proofs.Answer.{by-code}
 use Rattle.batch.specs.Batches.{statusOf}
-use Rattle.batch.proofs.Joined.{Shaped}
+use Rattle.cutting.proofs.Joined.{Shaped}
 
 -- its length is a job's, and n goes with it
 length-ok : (r : List ℕ) → Shaped r → jobLengthOk r ≡ true

@@ -8,7 +8,7 @@ use Rattle.logic.specs.Rules.{both, pick, rule}
 use Rattle.logic.specs.Answers.{Answer, refused, answered, answerOf}
 use Rattle.search.specs.Outcomes.{Found, searchOf, written}
 use Rattle.batch.specs.declared.Batched.{Batched}
-use Rattle.batch.specs.Records.{recordsOf, countOf, allCut}
+use Rattle.cutting.specs.Records.{recordsOf, countOf, allCut}
 
 -- "Each has a 15-byte answer cell and a status byte"
 unfoldable pub roomOk : List ℕ → ℕ → ℕ → Bool

@@ -6,9 +6,9 @@ use native.Mathlib.Omega.{arith}
 use lib.ListN.{length, length-append}
 use Rattle.logic.proofs.Prefixes.{told-by}
 use Rattle.record.proofs.Long.{long-job}
-use Rattle.verify.specs.declared.Measures.{Measures}
+use Rattle.measures.specs.declared.Measures.{Measures}
 use Rattle.search.specs.Outcomes.{searchCode}
-use Rattle.text.proofs.Pieces.{decimal-short, found-short}
+use Rattle.pieces.proofs.Pieces.{decimal-short, found-short}
 use Rattle.report.specs.Report.{refusedText}
 use Rattle.approximate.specs.Calls.{Close, closestOf}
 use Rattle.approximate.proofs.Answer.{by-code}

@@ -1,7 +1,7 @@
 -- What is printed, word for word.
 use mathlib.Core.Path.{_≡_, refl}
 use Rattle.logic.specs.Words.{bytes}
-use Rattle.text.specs.Text.{place, decimal}
+use Rattle.pieces.specs.Text.{place, decimal}
 use Rattle.closeness.specs.Closeness.{missesLine}
 
 pub none-missed : missesLine 0 ≡ bytes "misses 0\n"

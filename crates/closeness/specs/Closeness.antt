@@ -5,7 +5,7 @@ use Prim.Native.Nat.{ℕ}
 use lib.ListN.{take}
 use Rattle.logic.specs.Answers.{Answer, refused, answered}
 use Rattle.logic.specs.Words.{bytes}
-use Rattle.text.specs.Text.{decimal, lineFeed, foundLine}
+use Rattle.pieces.specs.Text.{decimal, lineFeed, foundLine}
 use Rattle.report.specs.Report.{refusedText}
 use Rattle.approximate.specs.Calls.{Close, closestOf}
 

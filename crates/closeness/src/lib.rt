@@ -1,11 +1,11 @@
 // What is printed where the closest circuit of a job is asked for.
 use approximate::Nearest;
-use verify::Measures;
+use measures::Measures;
 ghost use mathlib.Core.Path.{_≡_};
 ghost use Prim.Native.Nat.{_≤_};
 ghost use lib.ListN.{length};
-ghost use Rattle.text.specs.Text.{inFront};
-ghost use Rattle.text.specs.Writing.{Wrote};
+ghost use Rattle.pieces.specs.Text.{inFront};
+ghost use Rattle.pieces.specs.Writing.{Wrote};
 ghost use Rattle.closeness.specs.Closeness.{missesLine, closestText, TellingJob};
 ghost use Rattle.closeness.specs.Inner.{bothLines};
 
@@ -22,9 +22,9 @@ fn put_misses(out: &mut [u8], k: usize) -> usize
     requires { ⌜ 13 ≤ length (now out) ⌝ }
     ensures { λ r. ⌜ Wrote (now (out .entry)) 0 (missesLine k) (now (out .exit)) r ⌝ }
 {
-    let a = text::put_text(out, 0, b"misses ");
-    let b = text::put_decimal(out, a, k);
-    text::put(out, b, b'\n')
+    let a = pieces::put_text(out, 0, b"misses ");
+    let b = pieces::put_decimal(out, a, k);
+    pieces::put(out, b, b'\n')
 }
 
 // Writes both lines of a circuit at the start of the buffer, and answers their length.

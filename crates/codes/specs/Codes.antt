@@ -4,8 +4,10 @@ use mathlib.Core.List.{List}
 use Prim.Native.Nat.{ℕ, _^_}
 use lib.Dec.{ltb, leb, eqb}
 use Rattle.logic.specs.Rules.{both, implies, rule, andThen}
-use Rattle.record.specs.Jobs.{longer, dataWires, ancillas, wires, jobCode}
-use Rattle.record.specs.Circuits.{marked, circuitCode}
+use Rattle.record.specs.JobRules.{jobCode}
+use Rattle.fields.specs.Jobs.{longer, dataWires, ancillas, wires}
+use Rattle.record.specs.CircuitRules.{circuitCode}
+use Rattle.fields.specs.Circuits.{marked}
 
 -- the circuit's checks, then "is the value below 2^W? If not, 20."
 unfoldable pub runCode : List ℕ → ℕ → ℕ

@@ -7,7 +7,7 @@ pub fn run_code(c: &[u8], value: u8) -> u8
     ensures { λ r. ⌜ r ≡ runCode (now (c .entry)) value ⌝ }
 {
     let code = record::circuit_code(c);
-    let w = record::wires(c);
+    let w = fields::wires(c);
     logic::and_then(code, logic::rule(logic::wide(value) < (1 << w), 20, 0))
 }
 
@@ -15,8 +15,8 @@ fn same_wires(job: &[u8], c: &[u8]) -> bool
     ensures { λ r. ⌜ r ≡ sameWires (now (job .entry)) (now (c .entry)) ⌝ }
 {
     logic::both(
-        record::data_wires(job) == record::data_wires(c),
-        record::ancillas(job) == record::ancillas(c),
+        fields::data_wires(job) == fields::data_wires(c),
+        fields::ancillas(job) == fields::ancillas(c),
     )
 }
 
@@ -24,7 +24,7 @@ fn same_wires(job: &[u8], c: &[u8]) -> bool
 fn mark_fits(job: &[u8], c: &[u8]) -> bool
     ensures { λ r. ⌜ r ≡ markFits (now (job .entry)) (now (c .entry)) ⌝ }
 {
-    logic::implies(record::marked(c), record::longer(job))
+    logic::implies(fields::marked(c), fields::longer(job))
 }
 
 // The rules of a circuit for a job: its own, then that it has the job's wires and no mark that the job has not.

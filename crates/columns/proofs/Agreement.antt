@@ -21,7 +21,7 @@ use Rattle.gate.specs.Gates.{lawful}
 use Rattle.circuit.specs.Run.{forwards}
 use Rattle.circuit.specs.Inner.{columnsAfter}
 use Rattle.circuit.proofs.Reversal.{rows-run}
-use Rattle.table.specs.Layouts.{Width, wireOf}
+use Rattle.layouts.specs.Layouts.{Width, wireOf}
 use Rattle.table.specs.Rows.{careOf, valueOf, bitAgrees, rowAgrees, agrees, atZero, clean}
 use Rattle.table.proofs.Rows.{agrees-at, agrees-all}
 use Rattle.columns.specs.Wanted.{columnOf, rowBit, columnsOf, wantedOf, startColumns, misses, fits, met, allRows, dirt, tidy}

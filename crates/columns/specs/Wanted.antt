@@ -8,7 +8,7 @@ use lib.ListN.{getD}
 use Rattle.logic.specs.Rules.{both, pick, allBelow}
 use Rattle.logic.specs.Lists.{back}
 use Rattle.logic.specs.Bit.{bitOf}
-use Rattle.table.specs.Layouts.{wireOf}
+use Rattle.layouts.specs.Layouts.{wireOf}
 use Rattle.table.specs.Rows.{careOf, valueOf}
 use Rattle.columns.specs.declared.Wanted.{Wanted}
 

@@ -5,37 +5,81 @@ ghost use Prim.Native.Nat.{_<_, _≤_};
 ghost use lib.ListN.{length};
 ghost use Rattle.files.specs.Parts.{batchParts};
 
-// Does what the words after the program's name ask for, or says what can be asked.
+// Does what the words after the program's name ask for, or says what can be asked. Several commands may stand there, with `then` between them.
 pub fn run() {
-    let mut word = io::buffer();
-    let n = os::arg(1, &mut word);
-    dispatch(&word[..n], os::arg_count());
+    let count = few(os::arg_count());
+    let mut at = run_command(0, count);
+    while at < count {
+        at = run_command(at, count);
+    }
 }
 
-// Each command by its name and its number of words, the program's own name among them; a library may be named last.
-fn dispatch(word: &[u8], words: usize) {
+// Nobody writes a million words: from there on they are passed over, so that no sum of places can overflow.
+fn few(count: usize) -> usize
+    ensures { λ r. ⌜ r ≤ 1000000 ⌝ }
+{
+    if count < 1_000_000 { count } else { 1_000_000 }
+}
+
+// Runs the command after the word at `at`, the program's name or a `then`, and answers where it ends.
+fn run_command(at: usize, count: usize) -> usize
+    requires { ⌜ (at ≤ count) × (count ≤ 1000000) ⌝ }
+    ensures { λ r. ⌜ (r ≤ count) × (at < count → at < r) ⌝ }
+{
+    let end = command_end(at, count);
+    let mut word = io::buffer();
+    let n = os::arg(at + 1, &mut word);
+    dispatch(&word[..n], at, end - at);
+    end
+}
+
+// The place of the next `then` after a place, or the number of words.
+fn command_end(at: usize, count: usize) -> usize
+    requires { ⌜ (at ≤ count) × (count ≤ 1000000) ⌝ }
+    ensures { λ r. ⌜ ((at ≤ r) × (r ≤ count)) × (at < count → at < r) ⌝ }
+{
+    let mut i = at;
+    while i < count {
+        i += 1;
+        if is_then(i) {
+            return i;
+        }
+    }
+    i
+}
+
+fn is_then(i: usize) -> bool {
+    let mut word = io::buffer();
+    let n = os::arg(i, &mut word);
+    check::same(&word[..n], b"then")
+}
+
+// Each command by its name and its number of words, the one before it among them; a library may be named last.
+fn dispatch(word: &[u8], at: usize, words: usize)
+    requires { ⌜ at ≤ 1000000 ⌝ }
+{
     if is_asked(word, b"verify", words, 4, 5) {
-        verify(words == 5);
+        verify(at, words == 5);
         return;
     }
     if is_asked(word, b"search", words, 3, 4) {
-        search(words == 4);
+        search(at, words == 4);
         return;
     }
     if is_asked(word, b"batch", words, 3, 3) {
-        batch();
+        batch(at);
         return;
     }
     if is_asked(word, b"compare", words, 4, 4) {
-        compare();
+        compare(at);
         return;
     }
     if is_asked(word, b"closest", words, 3, 3) {
-        closest();
+        closest(at);
         return;
     }
     if is_asked(word, b"rewrite", words, 3, 3) {
-        rewrite();
+        rewrite(at);
         return;
     }
     usage();
@@ -47,7 +91,7 @@ fn is_asked(word: &[u8], command: &[u8], words: usize, least: usize, most: usize
 }
 
 fn usage() {
-    say(b"usage: gazbolk COMMAND WORDS\n");
+    say(b"usage: gazbolk COMMAND WORDS [then COMMAND WORDS]..\n");
     say(b"\nsearch JOB [LIBRARY]\n");
     say(b"    Searches for the cheapest circuit of a job. JOB names the file of a job record,\n");
     say(b"    LIBRARY that of a gate library: three bytes for each gate, the gate, its price\n");
@@ -87,52 +131,64 @@ fn say(text: &[u8]) {
 }
 
 // `gazbolk verify JOB CIRCUIT [LIBRARY]`
-fn verify(named: bool) {
-    let job = open(2);
-    let circuit = open(3);
-    let library = open_named(named, 4);
+fn verify(at: usize, named: bool)
+    requires { ⌜ at ≤ 1000000 ⌝ }
+{
+    let job = open(at + 2);
+    let circuit = open(at + 3);
+    let library = open_named(named, at + 4);
     if all_open(job, circuit, library) {
         print_verdict(job, circuit, named, library);
     }
 }
 
 // `gazbolk search JOB [LIBRARY]`
-fn search(named: bool) {
-    let job = open(2);
-    let library = open_named(named, 3);
+fn search(at: usize, named: bool)
+    requires { ⌜ at ≤ 1000000 ⌝ }
+{
+    let job = open(at + 2);
+    let library = open_named(named, at + 3);
     if all_open(job, job, library) {
         print_finding(job, named, library);
     }
 }
 
 // `gazbolk batch FILE`
-fn batch() {
-    let file = open(2);
+fn batch(at: usize)
+    requires { ⌜ at ≤ 1000000 ⌝ }
+{
+    let file = open(at + 2);
     if file >= 0 {
         print_batch(file);
     }
 }
 
 // `gazbolk compare OLD NEW`
-fn compare() {
-    let old = open(2);
-    let new = open(3);
+fn compare(at: usize)
+    requires { ⌜ at ≤ 1000000 ⌝ }
+{
+    let old = open(at + 2);
+    let new = open(at + 3);
     if all_open(old, new, 0) {
         print_change(old, new);
     }
 }
 
 // `gazbolk closest JOB`
-fn closest() {
-    let job = open(2);
+fn closest(at: usize)
+    requires { ⌜ at ≤ 1000000 ⌝ }
+{
+    let job = open(at + 2);
     if job >= 0 {
         print_closest(job);
     }
 }
 
 // `gazbolk rewrite FILE`
-fn rewrite() {
-    let file = open(2);
+fn rewrite(at: usize)
+    requires { ⌜ at ≤ 1000000 ⌝ }
+{
+    let file = open(at + 2);
     if file >= 0 {
         print_rewriting(file);
     }
@@ -185,22 +241,22 @@ fn read_part(named: bool, file: i32, room: usize, buffer: &mut [u8]) -> usize
 // Judges the circuit of one open file for the job of another, and prints the verdict. As much of each is read as tells it.
 fn print_verdict(job_file: i32, circuit_file: i32, named: bool, library_file: i32) {
     let mut job = io::buffer();
-    let n = read_part(true, job_file, files::job_room(), &mut job);
+    let n = read_part(true, job_file, verdicts::job_room(), &mut job);
     let mut library = io::buffer();
-    let k = read_part(named, library_file, files::library_room(), &mut library);
+    let k = read_part(named, library_file, verdicts::library_room(), &mut library);
     let mut circuit = io::large_buffer();
-    let m = read_part(true, circuit_file, files::circuit_room(), &mut circuit);
+    let m = read_part(true, circuit_file, verdicts::circuit_room(), &mut circuit);
     let mut out = [0u8; 128];
-    let size = files::verify_text(&job[..n], named, &library[..k], &circuit[..m], &mut out);
+    let size = verdicts::verify_text(&job[..n], named, &library[..k], &circuit[..m], &mut out);
     say(&out[..size]);
 }
 
 // Searches for the circuit of the job in an open file, and prints what is found. As much of each file is read as tells it.
 fn print_finding(job_file: i32, named: bool, library_file: i32) {
     let mut job = io::buffer();
-    let n = read_part(true, job_file, files::job_room(), &mut job);
+    let n = read_part(true, job_file, verdicts::job_room(), &mut job);
     let mut library = io::buffer();
-    let k = read_part(named, library_file, files::library_room(), &mut library);
+    let k = read_part(named, library_file, verdicts::library_room(), &mut library);
     let mut out = [0u8; 128];
     let size = files::search_text(&job[..n], named, &library[..k], &mut out);
     say(&out[..size]);

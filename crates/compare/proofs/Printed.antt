@@ -15,15 +15,16 @@ use Rattle.logic.specs.Words.{bytes}
 use Rattle.logic.specs.Answers.{Answer, refused, answered}
 use Rattle.logic.proofs.Chain.{and-then-zero}
 use Rattle.logic.proofs.Prefixes.{told-by}
-use Rattle.record.specs.Jobs.{jobCode}
+use Rattle.record.specs.JobRules.{jobCode}
 use Rattle.record.proofs.Long.{long-job}
-use Rattle.verify.specs.declared.Measures.{Measures}
+use Rattle.measures.specs.declared.Measures.{Measures}
 use Rattle.search.specs.Outcomes.{Found, reported, searchOf}
-use Rattle.text.specs.Text.{inFront}
-use Rattle.text.proofs.Pieces.{decimal-short, found-short}
+use Rattle.pieces.specs.Text.{inFront}
+use Rattle.pieces.proofs.Pieces.{decimal-short, found-short}
 use Rattle.line.specs.Lines.{lineOf}
 use Rattle.report.specs.Report.{refusedText}
-use Rattle.sensitivity.specs.Calls.{compareCode, costDifference, changeBetween, priceChange}
+use Rattle.alike.specs.Alike.{compareCode, costDifference}
+use Rattle.sensitivity.specs.Calls.{changeBetween, priceChange}
 use Rattle.compare.specs.Compare.{sign, changeLine, printed, compareText, TellingPair}
 use Rattle.compare.specs.Inner.{bothLines, bothText}
 

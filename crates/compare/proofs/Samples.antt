@@ -2,7 +2,7 @@
 use mathlib.Core.Path.{_≡_, refl}
 use lib.IntN.{pos, negsuc}
 use Rattle.logic.specs.Words.{bytes}
-use Rattle.text.specs.Text.{place, decimal}
+use Rattle.pieces.specs.Text.{place, decimal}
 use Rattle.compare.specs.Compare.{sign, changeLine}
 
 pub rises : changeLine (pos 1) ≡ bytes "by +1\n"

@@ -9,7 +9,7 @@ use lib.Signed.{ltZ}
 use Rattle.logic.specs.Rules.{pick}
 use Rattle.logic.specs.Answers.{Answer, refused, answered}
 use Rattle.logic.specs.Words.{bytes}
-use Rattle.text.specs.Text.{decimal, lineFeed}
+use Rattle.pieces.specs.Text.{decimal, lineFeed}
 use Rattle.line.specs.Lines.{lineOf}
 use Rattle.report.specs.Report.{refusedText}
 use Rattle.sensitivity.specs.Calls.{priceChange}

@@ -2,11 +2,11 @@
 use mathlib.Core.List.{List, _++_}
 use Prim.Native.Nat.{ℕ}
 use Rattle.logic.specs.Answers.{Answer, refused, answered}
-use Rattle.verify.specs.declared.Measures.{Measures}
+use Rattle.measures.specs.declared.Measures.{Measures}
 use Rattle.search.specs.Outcomes.{Found}
-use Rattle.text.specs.Text.{foundLine}
+use Rattle.pieces.specs.Text.{foundLine}
 use Rattle.report.specs.Report.{refusedText}
-use Rattle.sensitivity.specs.Calls.{costDifference}
+use Rattle.alike.specs.Alike.{costDifference}
 use Rattle.compare.specs.Compare.{changeLine}
 
 -- of two circuits

@@ -1,12 +1,12 @@
 // What is printed where two jobs are compared that are alike but for one price.
+use measures::Measures;
 use search::Searched;
-use verify::Measures;
 ghost use mathlib.Core.Path.{_≡_};
 ghost use Prim.Native.Nat.{_+_, _≤_};
 ghost use lib.ListN.{length};
 ghost use Rattle.search.specs.Outcomes.{searchOf};
-ghost use Rattle.text.specs.Text.{foundLine, inFront};
-ghost use Rattle.text.specs.Writing.{Wrote};
+ghost use Rattle.pieces.specs.Text.{foundLine, inFront};
+ghost use Rattle.pieces.specs.Writing.{Wrote};
 ghost use Rattle.compare.specs.Compare.{sign, changeLine, compareText, TellingPair};
 ghost use Rattle.compare.specs.Inner.{bothLines, afterOld, bothText};
 
@@ -23,13 +23,13 @@ fn put_sign(out: &mut [u8], i: usize, difference: i32) -> usize
     requires { ⌜ i + 1 ≤ length (now out) ⌝ }
     ensures { λ r. ⌜ Wrote (now (out .entry)) i (sign difference) (now (out .exit)) r ⌝ }
 {
-    if sensitivity::is_negative(difference) {
-        return text::put(out, i, b'-');
+    if alike::is_negative(difference) {
+        return pieces::put(out, i, b'-');
     }
-    if sensitivity::distance(difference) == 0 {
+    if alike::distance(difference) == 0 {
         return i;
     }
-    text::put(out, i, b'+')
+    pieces::put(out, i, b'+')
 }
 
 // Writes `by` and the difference at the start of the buffer.
@@ -37,10 +37,10 @@ fn put_change(out: &mut [u8], difference: i32) -> usize
     requires { ⌜ 10 ≤ length (now out) ⌝ }
     ensures { λ r. ⌜ Wrote (now (out .entry)) 0 (changeLine difference) (now (out .exit)) r ⌝ }
 {
-    let a = text::put_text(out, 0, b"by ");
+    let a = pieces::put_text(out, 0, b"by ");
     let b = put_sign(out, a, difference);
-    let c = text::put_decimal(out, b, sensitivity::distance(difference) as usize);
-    text::put(out, c, b'\n')
+    let c = pieces::put_decimal(out, b, alike::distance(difference) as usize);
+    pieces::put(out, c, b'\n')
 }
 
 // Writes the line of a circuit that was found.
@@ -51,7 +51,7 @@ pub fn put_found(out: &mut [u8], i: usize, m: Measures, circuit: &[u8]) -> usize
 {
     let mut line = [0u8; 64];
     let size = text::found_line(m, circuit, &mut line);
-    text::put_text(out, i, &line[..size])
+    pieces::put_text(out, i, &line[..size])
 }
 
 // Writes the difference of two circuits' costs and both their lines at the start of the buffer, and answers the length.
@@ -62,7 +62,7 @@ fn put_both(m: Measures, circuit: &[u8], k: Measures, other: &[u8], out: &mut [u
     ensures { λ r. ⌜ r ≡ length (bothLines m (now (circuit .entry)) k (now (other .entry))) ⌝ }
     ensures { λ _. ⌜ now (out .exit) ≡ inFront (bothLines m (now (circuit .entry)) k (now (other .entry))) (now (out .entry)) ⌝ }
 {
-    let a = put_change(out, sensitivity::cost_difference(m.cost, k.cost));
+    let a = put_change(out, alike::cost_difference(m.cost, k.cost));
     let b = put_found(out, a, m, circuit);
     put_found(out, b, k, other)
 }
@@ -103,7 +103,7 @@ pub fn compare_text(old: &[u8], new: &[u8], out: &mut [u8]) -> usize
     ensures { λ r. ⌜ r ≤ 256 ⌝ }
     ensures { λ _. ⌜ now (out .exit) ≡ inFront (compareText (now (old .entry)) (now (new .entry))) (now (out .entry)) ⌝ }
 {
-    let code = sensitivity::compare_code(old, new);
+    let code = alike::compare_code(old, new);
     if code != 0 {
         return report::refused_text(code, out);
     }

@@ -19,9 +19,9 @@ use Rattle.budget.specs.Heavy.{heavy}
 use Rattle.budget.specs.Sums.{Marked}
 use Rattle.budget.proofs.Afford.{reach-most}
 use Rattle.budget.proofs.Sums.{sums-marked}
-use Rattle.node.specs.declared.Task.{Task}
-use Rattle.node.specs.declared.Least.{Least}
-use Rattle.node.specs.States.{Fair, Posed, Limited, Bounded, Exact}
+use Rattle.states.specs.declared.Task.{Task}
+use Rattle.states.specs.declared.Least.{Least}
+use Rattle.states.specs.States.{Fair, Posed, Limited, Bounded, Exact}
 use Rattle.deepening.specs.Deepening.{Counted, Priced, limitedTo}
 
 -- the gates that a cost buys

@@ -10,7 +10,7 @@ use Rattle.problem.specs.Problems.{Problem}
 use Rattle.choice.specs.declared.Best.{Best}
 use Rattle.choice.specs.Inner.{view}
 use Rattle.problem.specs.Inner.{Past, Dearer, Shortest}
-use Rattle.node.specs.declared.Task.{Task}
+use Rattle.states.specs.declared.Task.{Task}
 
 -- the sums, where there are any, mark the cost and count of every list that the problem allows, and nothing good costs less than the limit
 pub record Counted (P : Problem) (limit : ℕ) (sums : List ℕ) : Type 0 where

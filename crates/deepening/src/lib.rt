@@ -1,8 +1,8 @@
 // Deepening: one walk after the other, by gates and by cost. Its contracts speak of every problem that the arguments pose.
 use choice::Best;
-use node::Least;
-use node::Task;
-use reach::Reach;
+use hashes::Reach;
+use states::Least;
+use states::Task;
 ghost use mathlib.Core.Path.{_≡_};
 ghost use mathlib.Core.Bool.{true};
 ghost use Prim.Native.Nat.{_≤_};
@@ -10,7 +10,7 @@ ghost use Rattle.choice.specs.Inner.{view};
 ghost use Rattle.problem.specs.Problems.{Problem, firstGood};
 ghost use Rattle.problem.specs.Inner.{Past, Shortest};
 ghost use Rattle.budget.specs.Sums.{Marked};
-ghost use Rattle.node.specs.States.{Supplied, Ready, Posed, Limited, Bounded};
+ghost use Rattle.states.specs.States.{Supplied, Ready, Posed, Limited, Bounded};
 ghost use Rattle.deepening.specs.Deepening.{Counted, Deepened, Priced, limitedTo};
 
 // Deepening on gates: one gate more until a search finds something. Sums are given where nothing good costs less than the task's limit.

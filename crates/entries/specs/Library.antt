@@ -7,7 +7,7 @@ use lib.Dec.{leb, eqb}
 use lib.ListN.{length}
 use Rattle.logic.specs.Rules.{both, either, pick, rule}
 use Rattle.gate.specs.Gates.{lawful, gatesFor}
-use Rattle.record.specs.Jobs.{mostControls, wires, priceOf, durationOf}
+use Rattle.fields.specs.Jobs.{mostControls, wires, priceOf, durationOf}
 use Rattle.entries.specs.declared.Entry.{Entry}
 
 -- "three bytes an entry, gate, price, duration. It may be empty."

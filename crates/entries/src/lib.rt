@@ -66,8 +66,8 @@ fn library_sound(job: &[u8], library: &[u8]) -> bool
     ensures { λ r. ⌜ r ≡ librarySound (now (job .entry)) (now (library .entry)) ⌝ }
 {
     entries_ok(
-        record::most_controls(job) as u32,
-        record::wires(job),
+        fields::most_controls(job) as u32,
+        fields::wires(job),
         library,
     )
 }

@@ -7,8 +7,8 @@ use borrow.Author.Tests.{eq-eqb, ne-eqb}
 use lib.ListN.{length, getD, length-map}
 use Rattle.logic.specs.Lists.{total}
 use Rattle.logic.proofs.Prefixes.{told-by}
-use Rattle.batch.specs.Records.{recordsOf, countOf, jobAt, allCut}
-use Rattle.batch.proofs.Joined.{too-long}
+use Rattle.cutting.specs.Records.{recordsOf, countOf, jobAt, allCut}
+use Rattle.cutting.proofs.Joined.{too-long}
 use Rattle.line.specs.Lines.{lineOf}
 use Rattle.report.specs.Report.{refusedText}
 use Rattle.files.specs.Parts.{batchParts, partAt, TellingBatch}

@@ -4,7 +4,7 @@ use mathlib.Core.List.{List, [], _∷_, map}
 use Prim.Native.Nat.{ℕ}
 use lib.ListN.{getD, take}
 use Rattle.logic.specs.Rules.{pick}
-use Rattle.batch.specs.Records.{recordsOf, allCut}
+use Rattle.cutting.specs.Records.{recordsOf, allCut}
 use Rattle.line.specs.Lines.{lineOf}
 use Rattle.report.specs.Report.{refusedText}
 

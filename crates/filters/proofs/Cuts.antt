@@ -22,10 +22,10 @@ use Rattle.columns.specs.declared.Wanted.{Wanted}
 use Rattle.columns.specs.Wanted.{startColumns}
 use Rattle.columns.specs.Finish.{Finish}
 use Rattle.outputs.proofs.Few.{finish-next, first-lawful}
-use Rattle.reach.specs.declared.Reach.{Reach}
-use Rattle.reach.specs.Reach.{without, shareOf, shareAt, sharesOf, partOf, keyOf, litAt, held, Seen, SeenWithout, openOn}
+use Rattle.hashes.specs.declared.Reach.{Reach}
+use Rattle.hashes.specs.Reach.{without, shareOf, shareAt, sharesOf, partOf, keyOf, litAt, held, Seen, SeenWithout, openOn}
 use Rattle.filters.specs.Sieve.{Sieve}
-use Rattle.reach.proofs.Sums.{sum-same, part-swap}
+use Rattle.hashes.proofs.Sums.{sum-same, part-swap}
 use Rattle.filters.proofs.Sieves.{kept-column, shares-at}
 
 same-share : (r : Reach) (g : ℕ) (cs : List ℕ) (w : ℕ) → w < 5 → (w ≡ targetOf g → ⊥) → getD (sharesOf r (columnStep (gateOf g) cs)) w 0 ≡ getD (sharesOf r cs) w 0

@@ -27,18 +27,18 @@ use Rattle.gate.proofs.Widen.{parts, widen}
 use Rattle.gate.proofs.Slices.{length-step}
 use Rattle.circuit.specs.Inner.{columnsOver, columnsAfter}
 use Rattle.circuit.proofs.Reversal.{columns-length}
-use Rattle.table.specs.Layouts.{Width, wireOf, layoutsFor}
+use Rattle.layouts.specs.Layouts.{Width, wireOf, layoutsFor}
 use Rattle.columns.specs.declared.Wanted.{Wanted}
 use Rattle.columns.specs.Wanted.{startColumns, met, allRows, dirt, tidy}
 use Rattle.columns.specs.Finish.{Finish}
 use Rattle.span.specs.Span.{fullRows}
 use Rattle.span.proofs.Fewest.{fits-rows}
 use Rattle.outputs.proofs.Few.{finish-next}
-use Rattle.reach.specs.declared.Reach.{Reach}
-use Rattle.reach.specs.Reach.{sumBelow, without, shareOf, shareAt, sharesOf, partOf, keyOf, held, Seen, litAt}
+use Rattle.hashes.specs.declared.Reach.{Reach}
+use Rattle.hashes.specs.Reach.{sumBelow, without, shareOf, shareAt, sharesOf, partOf, keyOf, held, Seen, litAt}
 use Rattle.mirrors.specs.Mirrors.{wireAt, mirrors}
 use Rattle.filters.specs.Sieve.{Near, rowsOf, aimAt, aimOf, Sound, Sieve, emptied}
-use Rattle.reach.proofs.Sums.{sum-same, sum-order, part-swap}
+use Rattle.hashes.proofs.Sums.{sum-same, sum-order, part-swap}
 use Rattle.filters.proofs.Nearby.{near-here, near-start}
 use Rattle.mirrors.proofs.Turn.{width-le, turn-inside, turn-once, turn-onto, Alike, alike-step}
 

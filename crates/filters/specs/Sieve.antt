@@ -11,13 +11,13 @@ use Rattle.logic.specs.Lists.{numbersFrom, Among}
 use Rattle.gate.specs.Gates.{lawful, gateOf}
 use Rattle.gate.specs.Inner.{columnStep}
 use Rattle.circuit.specs.Inner.{columnsAfter}
-use Rattle.table.specs.Layouts.{layoutsFor}
+use Rattle.layouts.specs.Layouts.{layoutsFor}
 use Rattle.columns.specs.declared.Wanted.{Wanted}
 use Rattle.columns.specs.Wanted.{startColumns, allRows}
 use Rattle.columns.specs.Finish.{Finish}
 use Rattle.span.specs.Span.{fullRows}
-use Rattle.reach.specs.declared.Reach.{Reach}
-use Rattle.reach.specs.Reach.{Seen}
+use Rattle.hashes.specs.declared.Reach.{Reach}
+use Rattle.hashes.specs.Reach.{Seen}
 use Rattle.mirrors.specs.Mirrors.{wireAt, mirrors}
 
 -- P holds of all columns within k of these gates

@@ -2,7 +2,7 @@
 // cannot be finished in so many gates; a collision only loses a cut.
 use columns::Wanted;
 use gate::Kind;
-use reach::Reach;
+use hashes::Reach;
 ghost use mathlib.Core.Path.{_≡_};
 ghost use mathlib.Core.Bool.{true};
 ghost use Prim.Native.Nat.{ℕ, _<_};
@@ -11,8 +11,8 @@ ghost use lib.Dec.{ltb};
 ghost use Rattle.logic.specs.Rules.{pick};
 ghost use Rattle.gate.specs.Gates.{gateOf};
 ghost use Rattle.gate.specs.Inner.{firing, columnStep};
-ghost use Rattle.table.specs.Layouts.{Width};
-ghost use Rattle.reach.specs.Reach.{Grown, Seen, SeenWithout};
+ghost use Rattle.layouts.specs.Layouts.{Width};
+ghost use Rattle.hashes.specs.Reach.{Grown, Seen, SeenWithout};
 ghost use Rattle.mirrors.specs.Mirrors.{wireAt};
 ghost use Rattle.filters.specs.Sieve.{Near, rowsOf, aimOf, Sound, Sieve, emptied};
 
@@ -48,7 +48,7 @@ fn fill(gates: &[u8], reach: Reach, columns: [u16; 5], but: usize, k: usize, bit
     ensures { λ r. ⌜ Grown (now (bits .entry)) (now (bits .exit)) ⌝ }
     ensures { λ r. ⌜ Near (Seen (now (bits .exit)) reach) (now (gates .entry)) columns k ⌝ }
 {
-    reach::note(reach, columns, but, bits);
+    noting::note(reach, columns, but, bits);
     if k == 0 {
         return;
     }
@@ -125,7 +125,7 @@ fn even(factors: [u32; 5], n: usize, p: u8) -> bool
 {
     let mut w = 0;
     while w < 5 {
-        if reach::word_at(factors, mirrors::wire_at(n, p, w)) != reach::word_at(factors, w) {
+        if hashes::word_at(factors, mirrors::wire_at(n, p, w)) != hashes::word_at(factors, w) {
             return false;
         }
         w += 1;
@@ -142,10 +142,10 @@ fn sound(gates: &[u8], reach: Reach, n: usize, free: usize) -> bool
         return false;
     }
     let factors = reach.factors;
-    let count = table::layout_count(n, free);
+    let count = layouts::layout_count(n, free);
     let mut i = 0;
     while i < count {
-        let p = table::layout_at(n, free, i);
+        let p = layouts::layout_at(n, free, i);
         if !logic::both(mirrors::all_mirrored(gates, n, p), even(factors, n, p)) {
             return false;
         }
@@ -160,7 +160,7 @@ fn fill_wanted(gates: &[u8], t: Wanted, n: usize, reach: Reach, bits: &mut [u64]
 {
     let columns = aim_of(t, n);
     let radius = reach.radius;
-    reach::note(reach, columns, 9, bits);
+    noting::note(reach, columns, 9, bits);
     fill(gates, reach, columns, 9, radius, bits);
 }
 

@@ -17,7 +17,7 @@ use Rattle.columns.specs.declared.Wanted.{Wanted}
 use Rattle.columns.specs.Wanted.{misses, allRows, dirt, tidy}
 use Rattle.outputs.specs.Owed.{missed, Controls, upTo, product, adds, mendableOn, mendable, cleanable, fixable}
 use Rattle.products.specs.Products.{part}
-use Rattle.fixes.proofs.Joined.{either-swap, some-either}
+use Rattle.hits.proofs.Joined.{either-swap, some-either}
 
 three-parts : (c : ℕ) → leb c 3 ≡ either (leb c 2) (eqb c 3)
 three-parts zero = refl

@@ -7,118 +7,11 @@ ghost use Prim.Native.Nat.{ℕ, _≤_, _<_};
 ghost use lib.Dec.{eqb};
 ghost use lib.ListN.{getD};
 ghost use Rattle.logic.specs.Rules.{both, bit};
-ghost use Rattle.table.specs.Layouts.{Width};
-ghost use Rattle.columns.specs.declared.Wanted.{Wanted};
+ghost use Rattle.layouts.specs.Layouts.{Width};
 ghost use Rattle.columns.specs.Wanted.{dirt};
 ghost use Rattle.outputs.specs.Owed.{Controls, adds, mendable, cleanable, fixable, stuck};
 ghost use Rattle.products.specs.Products.{part, productsOf};
-ghost use Rattle.fixes.specs.Inner.{othersOf, hitBit, hitsOf, rowHits, wireHits, fixesOn};
-
-// The products of wires other than `w`, a bit each: what a gate on `w` may add, of the products of three columns or of fewer.
-fn others(wide: bool, w: usize) -> u16
-    requires { ⌜ w < 5 ⌝ }
-    ensures { λ r. ⌜ r ≡ othersOf wide w ⌝ }
-{
-    match w {
-        0 => logic::picked(wide, 0x1488, 0xEED5),
-        1 => logic::picked(wide, 0x1244, 0xDDB3),
-        2 => logic::picked(wide, 0x0622, 0xBB8F),
-        3 => logic::picked(wide, 0x00E1, 0x787F),
-        _ => logic::picked(wide, 0x000F, 0x07FF),
-    }
-}
-
-// Whether product `i` may be added, and is what is wanted in the rows that care.
-fn hit(i: usize, p: u16, allowed: u16, care: u16, want: u16) -> u16
-    requires { ⌜ i < 16 ⌝ }
-    ensures { λ r. ⌜ r ≡ bit (hitBit i p allowed care want) ⌝ }
-{
-    outputs::one((allowed >> i) % 2 == 1) & outputs::one(p & care == want)
-}
-
-// Whether some product that may be added is one of four columns: no early exit, so that all are compared at once.
-fn hits(
-    ps: [u16; 16],
-    k: u16,
-    a: u16,
-    x: u16,
-    l: u16,
-    b: u16,
-    y: u16,
-    m: u16,
-    c: u16,
-    z: u16,
-    o: u16,
-    d: u16,
-    v: u16,
-) -> u16
-    ensures { λ r. ⌜ r ≡ bit (hitsOf ps k a x l b y m c z o d v) ⌝ }
-{
-    let mut any: u16 = 0;
-    let mut i = 0;
-    while i < 16 {
-        let p = ps[i];
-        any = (hit(i, p, o, d, v)
-            | (hit(i, p, m, c, z) | (hit(i, p, l, b, y) | hit(i, p, k, a, x))))
-            | any;
-        i += 1;
-    }
-    any
-}
-
-// Whether some product mends one of four outputs, by the rows that each misses; where none is missed, nothing is to be mended.
-fn row_hits(
-    ps: [u16; 16],
-    care: [u16; 4],
-    k: u16,
-    a: u16,
-    l: u16,
-    b: u16,
-    m: u16,
-    c: u16,
-    o: u16,
-    d: u16,
-) -> u16
-    ensures { λ r. ⌜ r ≡ bit (rowHits ps care k a l b m c o d) ⌝ }
-{
-    hits(
-        ps,
-        logic::picked(a == 0, 0, k),
-        care[0],
-        a,
-        logic::picked(b == 0, 0, l),
-        care[1],
-        b,
-        logic::picked(c == 0, 0, m),
-        care[2],
-        c,
-        logic::picked(d == 0, 0, o),
-        care[3],
-        d,
-    )
-}
-
-// Whether some product mends an output on wire `w`.
-fn wire_hits(wide: bool, t: Wanted, columns: [u16; 5], ps: [u16; 16], n: usize, w: usize) -> u16
-    requires { ⌜ w < 4 ⌝ }
-    ensures { λ r. ⌜ r ≡ bit (wireHits wide ps t columns n w) ⌝ }
-{
-    let care = t.care;
-    let column = columns[w];
-    let k = others(wide, w);
-    row_hits(
-        ps,
-        care,
-        k,
-        columns::misses(t, column, 0),
-        k,
-        columns::misses(t, column, 1),
-        k,
-        columns::misses(t, column, 2),
-        k,
-        logic::picked(n == 4, columns::misses(t, column, 3), 0),
-    )
-}
+ghost use Rattle.hits.specs.Inner.{fixesOn};
 
 // Whether some product of at most two columns mends an output on a wire that a layout may give it: one function, which the compiler then
 // inlines.
@@ -128,21 +21,22 @@ fn mendable(t: Wanted, columns: [u16; 5], n: usize, free: usize) -> u16
 {
     let ps = products::products(columns);
     if free == 1 {
-        logic::picked(n == 4, wire_hits(false, t, columns, ps, n, 3), 0)
-            | (wire_hits(false, t, columns, ps, n, 2)
-                | (wire_hits(false, t, columns, ps, n, 1) | wire_hits(false, t, columns, ps, n, 0)))
+        logic::picked(n == 4, hits::wire_hits(false, t, columns, ps, n, 3), 0)
+            | (hits::wire_hits(false, t, columns, ps, n, 2)
+                | (hits::wire_hits(false, t, columns, ps, n, 1)
+                    | hits::wire_hits(false, t, columns, ps, n, 0)))
     } else {
         let care = t.care;
-        row_hits(
+        hits::row_hits(
             ps,
             care,
-            others(false, 0),
+            hits::others(false, 0),
             columns::misses(t, columns[0], 0),
-            others(false, 1),
+            hits::others(false, 1),
             columns::misses(t, columns[1], 1),
-            others(false, 2),
+            hits::others(false, 2),
             columns::misses(t, columns[2], 2),
-            others(false, 3),
+            hits::others(false, 3),
             logic::picked(n == 4, columns::misses(t, columns[3], 3), 0),
         )
     }
@@ -153,7 +47,18 @@ fn one_hit(wide: bool, ps: [u16; 16], w: usize, care: u16, want: u16) -> u16
     requires { ⌜ w < 5 ⌝ }
     ensures { λ r. ⌜ ((cs : List ℕ) → ps ≡ productsOf 3 wide cs → r ≡ bit (both (not (eqb want 0)) (adds (part wide) cs w care want))) ⌝ }
 {
-    row_hits(ps, [care, 0, 0, 0], others(wide, w), want, 0, 0, 0, 0, 0, 0)
+    hits::row_hits(
+        ps,
+        [care, 0, 0, 0],
+        hits::others(wide, w),
+        want,
+        0,
+        0,
+        0,
+        0,
+        0,
+        0,
+    )
 }
 
 // Whether the ancilla is not at 0 in some rows, `spilt`, and some product of at most two columns puts it there.
@@ -204,7 +109,7 @@ fn wide_hits(
         );
     }
     if free == 1 {
-        return wire_hits(true, t, columns, ps, n, w);
+        return hits::wire_hits(true, t, columns, ps, n, w);
     }
     let care = t.care;
     one_hit(true, ps, w, care[w], columns::misses(t, columns[w], w))

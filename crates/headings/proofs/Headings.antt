@@ -12,7 +12,7 @@ use lib.Seq.{drop-drop, take-append-seam}
 use Rattle.logic.specs.Rules.{both, either, pick}
 use Rattle.logic.specs.Lists.{allOf}
 use Rattle.logic.proofs.Chain.{both-left, either-cases}
-use Rattle.table.specs.Layouts.{Width}
+use Rattle.layouts.specs.Layouts.{Width}
 use Rattle.revlib.specs.Grammar.{bytes, Constants, unsaid, allData, oneAncilla, ancillaCount, spaced, numvarsLine, variablesLine, constantsLine, constantsWord, heading, different, lowerCase, dataCount, headingOk}
 use Rattle.revlib.specs.Reading.{starts, namesAt, constantsOf, constantsAt, constantsIn, headingHere}
 use Rattle.revlib.proofs.Sound.{ancilla-few}

@@ -5,7 +5,7 @@ ghost use Prim.Native.Nat.{_+_, _-_, _≤_};
 ghost use lib.ListN.{length};
 ghost use Rattle.logic.specs.Rules.{bit};
 ghost use Rattle.logic.specs.Lists.{allOf};
-ghost use Rattle.table.specs.Layouts.{Width};
+ghost use Rattle.layouts.specs.Layouts.{Width};
 ghost use Rattle.revlib.specs.Grammar.{lowerCase, numvarsLine, ancillaCount};
 ghost use Rattle.revlib.specs.Reading.{starts, namesAt, constantsOf};
 ghost use Rattle.headings.specs.Heading.{HeadingIs};
@@ -63,7 +63,7 @@ fn says_constants(s: &[u8], w: usize) -> bool
     requires { ⌜ w ≤ 5 ⌝ }
     ensures { λ r. ⌜ r ≡ said (now (s .entry)) w ⌝ }
 {
-    tokens::starts(tokens::rest(s, 35 + 2 * w), b".constants ")
+    words::starts(words::rest(s, 35 + 2 * w), b".constants ")
 }
 
 // Whether its word closes with a 0.
@@ -95,7 +95,7 @@ fn data_count(w: usize, said: bool, closes: bool) -> usize
 fn heading_ok(letters: &[u8], n: usize) -> bool
     ensures { λ r. ⌜ r ≡ namesOk (now (letters .entry)) n ⌝ }
 {
-    let names = logic::both(tokens::different(letters), all_lower(letters));
+    let names = logic::both(words::different(letters), all_lower(letters));
     logic::both(logic::either(n == 3, n == 4), names)
 }
 
@@ -104,9 +104,9 @@ fn numvars_here(s: &[u8], w: usize) -> bool
     ensures { λ r. ⌜ r ≡ starts (numvarsLine w) (now (s .entry)) ⌝ }
 {
     match w {
-        3 => tokens::starts(s, b".numvars 3\n"),
-        4 => tokens::starts(s, b".numvars 4\n"),
-        _ => tokens::starts(s, b".numvars 5\n"),
+        3 => words::starts(s, b".numvars 3\n"),
+        4 => words::starts(s, b".numvars 4\n"),
+        _ => words::starts(s, b".numvars 5\n"),
     }
 }
 
@@ -115,9 +115,9 @@ fn opening_here(s: &[u8], w: usize) -> bool
     requires { ⌜ (3 ≤ w) × (w ≤ 5) ⌝ }
     ensures { λ r. ⌜ r ≡ starts (opening w) (now (s .entry)) ⌝ }
 {
-    let version = tokens::starts(s, b".version 2.0\n");
-    let numvars = numvars_here(tokens::rest(s, 13), w);
-    let variables = tokens::starts(tokens::rest(s, 24), b".variables");
+    let version = words::starts(s, b".version 2.0\n");
+    let numvars = numvars_here(words::rest(s, 13), w);
+    let variables = words::starts(words::rest(s, 24), b".variables");
     logic::both(version, logic::both(numvars, variables))
 }
 
@@ -129,7 +129,7 @@ fn letters_here(s: &[u8], letters: &[u8]) -> bool
     match letters.len() {
         3 => {
             let word = [b' ', letters[0], b' ', letters[1], b' ', letters[2], b'\n'];
-            tokens::starts(s, &word)
+            words::starts(s, &word)
         }
         4 => {
             let word = [
@@ -143,7 +143,7 @@ fn letters_here(s: &[u8], letters: &[u8]) -> bool
                 letters[3],
                 b'\n',
             ];
-            tokens::starts(s, &word)
+            words::starts(s, &word)
         }
         _ => {
             let word = [
@@ -159,7 +159,7 @@ fn letters_here(s: &[u8], letters: &[u8]) -> bool
                 letters[4],
                 b'\n',
             ];
-            tokens::starts(s, &word)
+            words::starts(s, &word)
         }
     }
 }
@@ -171,14 +171,14 @@ fn constants_here(s: &[u8], n: usize, closes: bool) -> bool
 {
     if closes {
         if n == 3 {
-            return tokens::starts(s, b".constants ---0\n.begin\n");
+            return words::starts(s, b".constants ---0\n.begin\n");
         }
-        return tokens::starts(s, b".constants ----0\n.begin\n");
+        return words::starts(s, b".constants ----0\n.begin\n");
     }
     if n == 3 {
-        return tokens::starts(s, b".constants ---\n.begin\n");
+        return words::starts(s, b".constants ---\n.begin\n");
     }
-    tokens::starts(s, b".constants ----\n.begin\n")
+    words::starts(s, b".constants ----\n.begin\n")
 }
 
 // Whether the lines after the letters stand at the start.
@@ -189,7 +189,7 @@ fn closing_here(s: &[u8], n: usize, said: bool, closes: bool) -> bool
     if said {
         constants_here(s, n, closes)
     } else {
-        tokens::starts(s, b".begin\n")
+        words::starts(s, b".begin\n")
     }
 }
 
@@ -204,8 +204,8 @@ fn heading_here(s: &[u8], letters: &[u8], said: bool, closes: bool) -> bool
         return false;
     }
     let opening = opening_here(s, w);
-    let names = letters_here(tokens::rest(s, 34), letters);
-    let closing = closing_here(tokens::rest(s, 35 + 2 * w), n, said, closes);
+    let names = letters_here(words::rest(s, 34), letters);
+    let closing = closing_here(words::rest(s, 35 + 2 * w), n, said, closes);
     logic::both(opening, logic::both(names, closing))
 }
 

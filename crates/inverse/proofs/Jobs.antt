@@ -13,13 +13,13 @@ use Rattle.logic.proofs.Members.{place-of, among-all}
 use Rattle.gate.specs.Gates.{lawful}
 use Rattle.circuit.specs.Run.{forwards}
 use Rattle.reversal.proofs.Runs.{runs-back, lawful-reverse}
-use Rattle.table.specs.Layouts.{plain, layoutsFor}
+use Rattle.layouts.specs.Layouts.{plain, layoutsFor}
 use Rattle.table.specs.Rows.{valueOf, realizes}
-use Rattle.table.proofs.Named.{fixed}
-use Rattle.record.specs.Jobs.{mostControls, dataWires, wires, freeLayout, rows}
+use Rattle.layouts.proofs.Named.{fixed}
+use Rattle.fields.specs.Jobs.{mostControls, dataWires, wires, freeLayout, rows}
 use Rattle.record.proofs.Kept.{sound-job, wires-within}
 use Rattle.parity.specs.Parity.{values, full, distinct, permutes}
-use Rattle.parity.proofs.Permutation.{permutation}
+use Rattle.odd_tables.proofs.Permutation.{permutation}
 use Rattle.problem.specs.Demand.{Admitted}
 use Rattle.search.specs.Outcomes.{GateSet, problemOver}
 use Rattle.search.specs.Inner.{Lawfuls}

@@ -15,14 +15,14 @@ use Rattle.logic.specs.Lists.{allOf, numbersFrom}
 use Rattle.logic.proofs.Chain.{both-right, both-true, rule-kept}
 use Rattle.logic.proofs.Below.{below}
 use Rattle.logic.proofs.Members.{member-at, place-of, all-members}
-use Rattle.table.specs.Layouts.{Width}
+use Rattle.layouts.specs.Layouts.{Width}
 use Rattle.table.specs.Rows.{careOf, valueOf, rowOk}
-use Rattle.record.specs.Jobs.{longer, dataWires, ancillas, freeLayout, gateLimit, costLimit, depthLimit, weightsAt, prices, durations, rows}
-use Rattle.record.specs.Jobs.{jobLengthOk, sizeOk, headOk, limitOk, durationsOk, rowsOk, jobCode}
+use Rattle.fields.specs.Jobs.{longer, dataWires, ancillas, freeLayout, gateLimit, costLimit, depthLimit, weightsAt, prices, durations, rows}
+use Rattle.record.specs.JobRules.{jobLengthOk, sizeOk, headOk, limitOk, durationsOk, rowsOk, jobCode}
 use Rattle.record.specs.Inner.{jobRest}
 use Rattle.record.proofs.Kept.{sound-job}
 use Rattle.parity.specs.Parity.{values, fullRow, full, distinct, permutes}
-use Rattle.parity.proofs.Permutation.{permutation}
+use Rattle.odd_tables.proofs.Permutation.{permutation}
 use Rattle.search.specs.Outcomes.{searchOf}
 use Rattle.entries.specs.Library.{libraryCode}
 use Rattle.library.specs.Calls.{searchWith}

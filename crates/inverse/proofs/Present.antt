@@ -4,8 +4,8 @@ use mathlib.Core.List.{List, [], _∷_, map}
 use Prim.Native.Nat.{ℕ, _+_}
 use Rattle.logic.specs.Lists.{allOf}
 use Rattle.table.specs.Rows.{rowOk}
-use Rattle.record.specs.Jobs.{longer, dataWires, ancillas, freeLayout, gateLimit, durations}
-use Rattle.record.specs.Jobs.{jobLengthOk, sizeOk, headOk, limitOk, durationsOk, rowsOk, jobCode}
+use Rattle.fields.specs.Jobs.{longer, dataWires, ancillas, freeLayout, gateLimit, durations}
+use Rattle.record.specs.JobRules.{jobLengthOk, sizeOk, headOk, limitOk, durationsOk, rowsOk, jobCode}
 use Rattle.parity.specs.Parity.{full, distinct, permutes}
 use Rattle.permutations.specs.Orders.{rowOf}
 use Rattle.inverse.specs.Inverse.{Permutation, Inverse, inverseJob}

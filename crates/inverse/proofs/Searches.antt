@@ -12,7 +12,7 @@ use Rattle.logic.specs.Rules.{pick, rule}
 use Rattle.logic.specs.Answers.{Answer, refused, answered}
 use Rattle.gate.specs.Gates.{gatesFor}
 use Rattle.circuit.specs.Measure.{weightOf}
-use Rattle.verify.specs.Calls.{measuresOf}
+use Rattle.measures.specs.Measures.{measuresOf}
 use Rattle.choice.specs.Choices.{Choice}
 use Rattle.problem.specs.Problems.{choiceOf, firstGood}
 use Rattle.problem.proofs.Facts as Demand

@@ -19,10 +19,10 @@ use Rattle.logic.proofs.Fold.{all-at}
 use Rattle.gate.specs.Gates.{lawful}
 use Rattle.circuit.specs.Run.{forwards}
 use Rattle.circuit.proofs.Reversal.{stays}
-use Rattle.table.specs.Layouts.{Width, plain}
+use Rattle.layouts.specs.Layouts.{Width, plain}
 use Rattle.table.specs.Rows.{careOf, valueOf, rowOk, bitAgrees, rowAgrees, agrees, realizes}
 use Rattle.table.proofs.Rows.{agrees-at, agrees-all, bare-realizes}
-use Rattle.record.specs.Jobs.{dataWires, rows}
+use Rattle.fields.specs.Jobs.{dataWires, rows}
 use Rattle.record.proofs.Kept.{SoundJob, sound-job}
 use Rattle.parity.specs.Parity.{fullRow, full, values, distinct, permutes}
 use Rattle.inverse.specs.Inverse.{Permutation, valueAt}

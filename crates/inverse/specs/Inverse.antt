@@ -7,7 +7,8 @@ use lib.ListN.{getD, take}
 use Rattle.logic.specs.Rules.{pick}
 use Rattle.logic.specs.Lists.{numbersFrom}
 use Rattle.table.specs.Rows.{valueOf}
-use Rattle.record.specs.Jobs.{longer, dataWires, ancillas, freeLayout, gateLimit, costLimit, depthLimit, prices, durations, rows, jobCode}
+use Rattle.record.specs.JobRules.{jobCode}
+use Rattle.fields.specs.Jobs.{longer, dataWires, ancillas, freeLayout, gateLimit, costLimit, depthLimit, prices, durations, rows}
 use Rattle.parity.specs.Parity.{values, permutes}
 use Rattle.permutations.specs.Orders.{rowOf}
 

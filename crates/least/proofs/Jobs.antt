@@ -13,9 +13,9 @@ use Rattle.gate.specs.Gates.{lawful, gatesFor, gateOf}
 use Rattle.gate.proofs.Tables.{among-lawful, on-three}
 use Rattle.circuit.specs.Measure.{weightOf, depth}
 use Rattle.circuit.proofs.Prefix.{depth-most}
-use Rattle.table.specs.Layouts.{plain}
+use Rattle.layouts.specs.Layouts.{plain}
 use Rattle.table.specs.Rows.{valueOf, realizes}
-use Rattle.record.specs.Jobs.{longer, mostControls, dataWires, wires, gateLimit, depthLimit, durations, durationOf, rows}
+use Rattle.fields.specs.Jobs.{longer, mostControls, dataWires, wires, gateLimit, depthLimit, durations, durationOf, rows}
 use Rattle.record.proofs.Kept.{sound-job, two-or-three}
 use Rattle.parity.specs.Parity.{values, full, distinct, permutes}
 use Rattle.problem.specs.Demand.{Solves}

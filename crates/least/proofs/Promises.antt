@@ -4,8 +4,8 @@ use mathlib.Core.Logic.{_↔_}
 use mathlib.Core.List.{List}
 use Prim.Native.Nat.{ℕ, _≤_, _<_}
 use Rattle.logic.specs.Answers.{refused}
-use Rattle.table.specs.Layouts.{plain}
-use Rattle.record.specs.Jobs.{dataWires, gateLimit}
+use Rattle.layouts.specs.Layouts.{plain}
+use Rattle.fields.specs.Jobs.{dataWires, gateLimit}
 use Rattle.parity.specs.Parity.{values}
 use Rattle.search.specs.Outcomes.{searchOf}
 use Rattle.search.proofs.Facts as Search

@@ -10,8 +10,8 @@ use lib.ListN.{length, getD, List·getD-eq-default}
 use Rattle.logic.specs.Lists.{allOf}
 use Rattle.logic.proofs.Fold.{all-at}
 use Rattle.table.specs.Rows.{rowOk}
-use Rattle.record.specs.Jobs.{longer, dataWires, ancillas, freeLayout, gateLimit, costLimit, depthLimit, durations}
-use Rattle.record.specs.Jobs.{jobLengthOk, sizeOk, headOk, limitOk, durationsOk, rowsOk, jobCode}
+use Rattle.fields.specs.Jobs.{longer, dataWires, ancillas, freeLayout, gateLimit, costLimit, depthLimit, durations}
+use Rattle.record.specs.JobRules.{jobLengthOk, sizeOk, headOk, limitOk, durationsOk, rowsOk, jobCode}
 use Rattle.parity.specs.Parity.{full, distinct, permutes}
 use Rattle.sensitivity.specs.Demand.{Bytes}
 use Rattle.least.specs.Counting.{Counting}

@@ -2,7 +2,7 @@
 use mathlib.Core.Path.{_≡_}
 use mathlib.Core.List.{List}
 use Prim.Native.Nat.{ℕ}
-use Rattle.record.specs.Jobs.{dataWires, costLimit, depthLimit}
+use Rattle.fields.specs.Jobs.{dataWires, costLimit, depthLimit}
 use Rattle.sensitivity.specs.Demand.{Bytes}
 use Rattle.inverse.specs.Inverse.{Permutation}
 

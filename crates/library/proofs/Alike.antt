@@ -10,8 +10,8 @@ use Rattle.logic.specs.Lists.{Among}
 use Rattle.logic.specs.Answers.{Answer, refused, answered}
 use Rattle.logic.proofs.Members.{among-nil, among-cons, among-append}
 use Rattle.circuit.specs.Measure.{cost, depth, greatest, idle}
-use Rattle.table.specs.Layouts.{layoutsFor}
-use Rattle.record.specs.Jobs.{dataWires, freeLayout, gateLimit}
+use Rattle.layouts.specs.Layouts.{layoutsFor}
+use Rattle.fields.specs.Jobs.{dataWires, freeLayout, gateLimit}
 use Rattle.choice.specs.Choices.{Choice, improve, under}
 use Rattle.problem.specs.Problems.{choiceOf, here, within, good, firstGood}
 use Rattle.problem.proofs.Facts as Demand

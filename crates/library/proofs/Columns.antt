@@ -12,7 +12,7 @@ use lib.Seq.{ext-getD, getD-take, length-take-le}
 use Rattle.logic.specs.Rules.{both, pick}
 use Rattle.logic.proofs.Chain.{both-left, both-right}
 use Rattle.gate.specs.Gates.{lawful}
-use Rattle.record.specs.Jobs.{mostControls, wires}
+use Rattle.fields.specs.Jobs.{mostControls, wires}
 use Rattle.search.specs.Inner.{Lawfuls, Tabled}
 use Rattle.entries.specs.declared.Entry.{Entry}
 use Rattle.entries.specs.Library.{entriesOf, gatesIn, entryFor, priceIn, entryOk, entriesOk, librarySound, libraryCode}

@@ -15,10 +15,12 @@ use Rattle.logic.proofs.Answers.{refused-by}
 use Rattle.logic.proofs.Chain.{both-true, and-then-zero}
 use Rattle.gate.specs.Gates.{lawful, gatesFor}
 use Rattle.gate.proofs.Tables.{gates-most, lawful-among}
-use Rattle.record.specs.Jobs.{longer, mostControls, wires, priceOf, durationOf, jobCode}
-use Rattle.record.specs.Circuits.{gates}
+use Rattle.record.specs.JobRules.{jobCode}
+use Rattle.fields.specs.Jobs.{longer, mostControls, wires, priceOf, durationOf}
+use Rattle.fields.specs.Circuits.{gates}
 use Rattle.record.proofs.Kept.{sound-job, wires-within, two-or-three}
-use Rattle.verify.specs.Calls.{measuresOf, measuresFor, circuitCodeFor, measureCode, verifyRest, verifyCode, verifyOf}
+use Rattle.measures.specs.Measures.{measuresOf}
+use Rattle.verify.specs.Calls.{measuresFor, circuitCodeFor, measureCode, verifyRest, verifyCode, verifyOf}
 use Rattle.verify.proofs.Codes.{circuit-parts}
 use Rattle.verify.proofs.Bounds.{lawful-here}
 use Rattle.search.specs.Outcomes.{ownSet, searchOver, searchCode, searchOf}

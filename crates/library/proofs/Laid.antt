@@ -14,7 +14,7 @@ use Rattle.logic.specs.Lists.{keepOnly, numbersFrom, total, along}
 use Rattle.logic.proofs.Chain.{both-true}
 use Rattle.gate.specs.Gates.{lawful, gateOf}
 use Rattle.circuit.specs.Measure.{holdByte, hold, idle}
-use Rattle.verify.specs.Calls.{measuresWith, measuresOf}
+use Rattle.measures.specs.Measures.{measuresWith, measuresOf}
 use Rattle.entries.specs.declared.Entry.{Entry}
 use Rattle.entries.specs.Library.{entriesOf, gatesIn, entryFor, laidOut, entryOk, entriesOk}
 

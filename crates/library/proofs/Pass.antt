@@ -10,10 +10,11 @@ use Rattle.logic.specs.Lists.{allOf}
 use Rattle.logic.specs.Answers.{refused, answered}
 use Rattle.logic.proofs.Answers.{answered-with, answered-is, refused-is}
 use Rattle.logic.proofs.Chain.{rule-kept, rule-never, and-then-zero, and-then-never}
-use Rattle.record.specs.Jobs.{wires, jobCode}
-use Rattle.record.specs.Circuits.{gates}
+use Rattle.record.specs.JobRules.{jobCode}
+use Rattle.fields.specs.Jobs.{wires}
+use Rattle.fields.specs.Circuits.{gates}
 use Rattle.record.proofs.Eleven.{job-never}
-use Rattle.verify.specs.declared.Measures.{Measures}
+use Rattle.measures.specs.declared.Measures.{Measures}
 use Rattle.verify.specs.Calls.{circuitCodeFor, verifyRest}
 use Rattle.verify.specs.Demand.{Timed}
 use Rattle.verify.proofs.Pass.{rest-passes, passes-circuit, passes-rest}

@@ -6,8 +6,8 @@ use Prim.Native.Nat.{ℕ, _≤_, _<_}
 use borrow.Author.Tests.{le-leb}
 use lib.ListN.{getD}
 use Rattle.logic.specs.Answers.{refused, answered}
-use Rattle.record.specs.Jobs.{longer, wires}
-use Rattle.record.specs.Circuits.{marked}
+use Rattle.fields.specs.Jobs.{longer, wires}
+use Rattle.fields.specs.Circuits.{marked}
 use Rattle.verify.specs.Demand.{Timed}
 use Rattle.problem.specs.Demand.{Solves}
 use Rattle.search.specs.Outcomes.{Found}

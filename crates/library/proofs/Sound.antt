@@ -13,8 +13,9 @@ use Rattle.logic.specs.Lists.{allOf, Among}
 use Rattle.logic.proofs.Chain.{both-left, both-right, either-cases, either-first, either-second, rule-kept, and-then-zero}
 use Rattle.logic.proofs.Members.{all-member, all-members}
 use Rattle.gate.specs.Gates.{lawful}
-use Rattle.record.specs.Jobs.{mostControls, wires, jobCode}
-use Rattle.record.specs.Circuits.{circuitCode}
+use Rattle.record.specs.JobRules.{jobCode}
+use Rattle.fields.specs.Jobs.{mostControls, wires}
+use Rattle.record.specs.CircuitRules.{circuitCode}
 use Rattle.verify.specs.Calls.{circuitCodeFor}
 use Rattle.verify.proofs.Codes.{circuit-parts}
 use Rattle.entries.specs.declared.Entry.{Entry}

@@ -5,10 +5,11 @@ use lib.Dec.{leb}
 use Rattle.logic.specs.Rules.{rule, andThen}
 use Rattle.logic.specs.Lists.{allOf}
 use Rattle.logic.specs.Answers.{Answer, answerOf}
-use Rattle.record.specs.Jobs.{jobCode}
-use Rattle.record.specs.Circuits.{gates}
-use Rattle.verify.specs.declared.Measures.{Measures}
-use Rattle.verify.specs.Calls.{measuresOf, circuitCodeFor, verifyRest}
+use Rattle.record.specs.JobRules.{jobCode}
+use Rattle.fields.specs.Circuits.{gates}
+use Rattle.measures.specs.declared.Measures.{Measures}
+use Rattle.measures.specs.Measures.{measuresOf}
+use Rattle.verify.specs.Calls.{circuitCodeFor, verifyRest}
 use Rattle.problem.specs.Problems.{Problem}
 use Rattle.search.specs.Outcomes.{GateSet, problemOver, Found, searchOver}
 use Rattle.entries.specs.Library.{gatesIn, priceIn, durationIn, listed, libraryCode}

@@ -1,15 +1,16 @@
 // The calls with a library, a caller's own gates with their prices and durations in place of the job's: verifying, and the search.
 use choice::Best;
+use measures::Measures;
 use search::Searched;
 use verify::Measured;
-use verify::Measures;
 ghost use mathlib.Core.Path.{_≡_};
 ghost use mathlib.Core.Bool.{true};
 ghost use Prim.Native.Nat.{ℕ, _<_, _≤_, _+_, _*_, _/_};
 ghost use lib.ListN.{length, getD, take};
-ghost use Rattle.record.specs.Jobs.{jobCode};
-ghost use Rattle.record.specs.Circuits.{circuitCode};
-ghost use Rattle.verify.specs.Calls.{measuredAnswer, measuresOf};
+ghost use Rattle.record.specs.JobRules.{jobCode};
+ghost use Rattle.record.specs.CircuitRules.{circuitCode};
+ghost use Rattle.measures.specs.Measures.{measuresOf};
+ghost use Rattle.verify.specs.Calls.{measuredAnswer};
 ghost use Rattle.choice.specs.Inner.{view};
 ghost use Rattle.problem.specs.Problems.{firstGood};
 ghost use Rattle.search.specs.Outcomes.{reported, written, searchedAnswer, sizeIn};
@@ -30,7 +31,7 @@ fn measure_list(library: &[u8], list: &[u8]) -> Measures
     let count = list.len() as u8;
     let sum = entries::cost(library, list);
     let times = entries::ready_times(library, list);
-    verify::measures_with(count, sum, times)
+    measures::measures_with(count, sum, times)
 }
 
 // The measures of a sound circuit.
@@ -38,7 +39,7 @@ fn measures_in(library: &[u8], c: &[u8]) -> Measures
     requires { ⌜ circuitCode (now c) ≡ 0 ⌝ }
     ensures { λ r. ⌜ r ≡ measuresIn (now (library .entry)) (now (c .entry)) ⌝ }
 {
-    measure_list(library, record::gate_list(c))
+    measure_list(library, fields::gate_list(c))
 }
 
 fn circuit_with_code(job: &[u8], library: &[u8], c: &[u8]) -> u8
@@ -55,7 +56,7 @@ fn rest_with_code(job: &[u8], library: &[u8], c: &[u8], m: Measures) -> u8
     requires { ⌜ librarySound (now job) (now library) ≡ true ⌝ }
     ensures { λ r. ⌜ r ≡ restWithCode (now (job .entry)) (now (library .entry)) (now (c .entry)) m ⌝ }
 {
-    let listed = entries::all_timed(library, record::gate_list(c));
+    let listed = entries::all_timed(library, fields::gate_list(c));
     let rest = verify::verify_rest(job, c, m);
     logic::rule(listed, 31, rest)
 }

@@ -6,7 +6,7 @@ use lib.ListN.{length}
 use Rattle.logic.proofs.Prefixes.{told-by}
 use Rattle.record.proofs.Long.{long-job}
 use Rattle.search.specs.Outcomes.{searchOver, searchCode, searchOf}
-use Rattle.text.specs.Text.{refusedLine}
+use Rattle.pieces.specs.Text.{refusedLine}
 use Rattle.line.specs.Lines.{lineOf, Telling}
 
 too-long : (job : List ℕ) → 30 < length job → lineOf job ≡ refusedLine 1

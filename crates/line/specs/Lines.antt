@@ -4,7 +4,7 @@ use mathlib.Core.List.{List}
 use Prim.Native.Nat.{ℕ}
 use lib.ListN.{take}
 use Rattle.logic.specs.Answers.{Answer, refused, answered}
-use Rattle.text.specs.Text.{refusedLine, foundLine}
+use Rattle.pieces.specs.Text.{refusedLine, foundLine}
 use Rattle.search.specs.Outcomes.{Found, searchOf}
 
 -- "`refused` and the number, or `found`, gates, cost, depth and the record in upper-case hexadecimal"

@@ -3,7 +3,7 @@ use search::Searched;
 ghost use mathlib.Core.Path.{_≡_};
 ghost use Prim.Native.Nat.{_≤_};
 ghost use lib.ListN.{length};
-ghost use Rattle.text.specs.Text.{inFront};
+ghost use Rattle.pieces.specs.Text.{inFront};
 ghost use Rattle.line.specs.Lines.{lineOf, Telling};
 
 // How many bytes of an input are enough to tell its line: one more than the longest job has.

@@ -23,9 +23,9 @@ use Rattle.gate.proofs.Widen.{parts}
 use Rattle.gate.proofs.Undo.{undo, stay}
 use Rattle.gate.proofs.Published.{fire-bit, bit-after}
 use Rattle.gate.proofs.Slices.{Row, row-step}
-use Rattle.table.specs.Layouts.{Width, layoutOk, layoutsFor}
-use Rattle.table.proofs.Layouts.{allowed-ok}
-use Rattle.reach.proofs.Words.{spelt}
+use Rattle.layouts.specs.Layouts.{Width, layoutOk, layoutsFor}
+use Rattle.layouts.proofs.Layouts.{allowed-ok}
+use Rattle.hashes.proofs.Words.{spelt}
 use Rattle.mirrors.specs.Mirrors.{wireAt, sameControl, mirrors}
 
 -- where a test holds somewhere below a bound

@@ -5,7 +5,7 @@ use lib.Dec.{eqb, ltb}
 use Rattle.logic.specs.Rules.{both, pick, allBelow}
 use Rattle.logic.specs.Bit.{bitOf}
 use Rattle.gate.specs.Gates.{targetOf, maskOf}
-use Rattle.table.specs.Layouts.{wireOf}
+use Rattle.layouts.specs.Layouts.{wireOf}
 
 -- the wire that a layout has for wire w of the plain one
 unfoldable pub wireAt : ℕ → ℕ → ℕ → ℕ

@@ -5,7 +5,7 @@ ghost use mathlib.Core.List.{List·Memᴰ};
 ghost use Prim.Native.Nat.{ℕ, _+_, _<_};
 ghost use lib.ListN.{length, getD};
 ghost use Rattle.gate.specs.Gates.{targetOf, lawful};
-ghost use Rattle.table.specs.Layouts.{Width};
+ghost use Rattle.layouts.specs.Layouts.{Width};
 ghost use Rattle.mirrors.specs.Mirrors.{wireAt, sameControl, mirrors};
 
 // The wire that a layout has for wire `w` of the plain one.

@@ -15,7 +15,7 @@ use Rattle.logic.proofs.Bits.{pow-suc, bit-half}
 use Rattle.gate.specs.Gates.{lawful}
 use Rattle.circuit.specs.Run.{forwards}
 use Rattle.circuit.specs.Inner.{columnsAfter}
-use Rattle.table.specs.Layouts.{Width}
+use Rattle.layouts.specs.Layouts.{Width}
 use Rattle.table.specs.Rows.{bitAgrees}
 use Rattle.columns.specs.Wanted.{wantedOf, startColumns}
 use Rattle.columns.proofs.Agreement.{missing, miss-is, miss-lt, tidy-clean}

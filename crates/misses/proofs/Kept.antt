@@ -19,8 +19,8 @@ use Rattle.gate.specs.declared.Gate.{Gate}
 use Rattle.gate.specs.Gates.{lawful, gateOf}
 use Rattle.gate.specs.Inner.{firing, columnStep}
 use Rattle.circuit.specs.Inner.{columnsAfter}
-use Rattle.table.specs.Layouts.{Width, wireOf, layoutsFor}
-use Rattle.table.proofs.Layouts.{wire-within, wire-once, wire-fixed}
+use Rattle.layouts.specs.Layouts.{Width, wireOf, layoutsFor}
+use Rattle.layouts.proofs.Layouts.{wire-within, wire-once, wire-fixed}
 use Rattle.columns.specs.declared.Wanted.{Wanted}
 use Rattle.outputs.proofs.Few.{target-lt}
 use Rattle.misses.specs.Columns.{missedBy, missedFor, missedOn, leastOf, leastMissed, leastLeft, missedAtLeast}

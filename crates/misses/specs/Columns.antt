@@ -6,7 +6,7 @@ use lib.Count.{ones}
 use lib.Dec.{eqb, leb}
 use lib.ListN.{getD}
 use Rattle.logic.specs.Rules.{both, pick}
-use Rattle.table.specs.Layouts.{wireOf}
+use Rattle.layouts.specs.Layouts.{wireOf}
 use Rattle.columns.specs.declared.Wanted.{Wanted}
 use Rattle.columns.specs.Wanted.{misses, tidy}
 

@@ -17,7 +17,7 @@ use Rattle.gate.specs.Gates.{lawful}
 use Rattle.gate.proofs.Widen.{widen}
 use Rattle.circuit.specs.Measure.{greatest}
 use Rattle.circuit.specs.Inner.{columnsOver, columnsAfter}
-use Rattle.table.specs.Layouts.{layoutsFor}
+use Rattle.layouts.specs.Layouts.{layoutsFor}
 use Rattle.columns.specs.Wanted.{startColumns, tidy}
 use Rattle.choice.specs.Choices.{Choice, improve}
 use Rattle.choice.proofs.First.{attempt-not}
@@ -30,9 +30,9 @@ use Rattle.pruned.specs.Pruned.{triedUnder}
 use Rattle.normal.proofs.Normal.{normal}
 use Rattle.misses.specs.Columns.{missedOn, nearly, missedAtLeast}
 use Rattle.misses.proofs.Kept.{missed-later}
-use Rattle.node.specs.declared.Task.{Task}
-use Rattle.node.specs.declared.Node.{Node}
-use Rattle.node.specs.States.{listOf, needless, Asks, At}
+use Rattle.states.specs.declared.Task.{Task}
+use Rattle.states.specs.declared.Node.{Node}
+use Rattle.states.specs.States.{listOf, needless, Asks, At}
 use Rattle.nearing.specs.Loose.{loosened}
 
 module _ (P : Problem) (task : Task) (asks : Asks P task) (k : ℕ) where

@@ -4,7 +4,7 @@ use Prim.Native.Nat.{ℕ}
 use Rattle.circuit.specs.Inner.{columnsAfter}
 use Rattle.columns.specs.Wanted.{startColumns}
 use Rattle.problem.specs.Problems.{Problem}
-use Rattle.node.specs.declared.Task.{Task}
+use Rattle.states.specs.declared.Task.{Task}
 use Rattle.misses.specs.Misses.{asking}
 use Rattle.misses.specs.Columns.{nearly}
 

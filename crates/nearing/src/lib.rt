@@ -1,21 +1,21 @@
 // The walk through all gate lists for those that miss at most so many wanted bits: depth first, cutting only what cannot change the answer.
 use choice::Best;
-use node::Entry;
-use node::Least;
-use node::Node;
-use node::Task;
+use states::Entry;
+use states::Least;
+use states::Node;
+use states::Task;
 ghost use mathlib.Core.Path.{_≡_};
 ghost use mathlib.Core.Bool.{true, false};
 ghost use Prim.Native.Nat.{_+_, _≤_, _<_};
 ghost use lib.ListN.{length};
 ghost use Rattle.gate.specs.Gates.{targetOf};
-ghost use Rattle.table.specs.Layouts.{Width};
+ghost use Rattle.layouts.specs.Layouts.{Width};
 ghost use Rattle.choice.specs.Choices.{attempt, improve};
 ghost use Rattle.choice.specs.Inner.{view};
 ghost use Rattle.problem.specs.Problems.{Problem, choiceOf, here, within, firstGood};
 ghost use Rattle.pruned.specs.Pruned.{triedUnder, triedBy};
 ghost use Rattle.products.specs.Products.{tableOf};
-ghost use Rattle.node.specs.States.{listOf, Slices, Small, Fair, Asks, Posed, Limited, At, Lists, needless};
+ghost use Rattle.states.specs.States.{listOf, Slices, Small, Fair, Asks, Posed, Limited, At, Lists, needless};
 ghost use Rattle.nearing.specs.Loose.{loosened};
 
 // Offers the list so far with one layout, if that is good and misses at most `k` wanted bits.
@@ -54,11 +54,11 @@ fn consider(task: Task, s: Node, k: usize, best: Best) -> Best
     ensures { λ r. ⌜ ((P : Problem) → Asks P task → At P s → view r ≡ improve (within (loosened task k P) (task .«cost_limit»)) (view best) (here (loosened task k P) (listOf s))) ⌝ }
     ensures { λ r. ⌜ r .len ≤ 12 ⌝ }
 {
-    let count = table::layout_count(task.outputs, task.free);
+    let count = layouts::layout_count(task.outputs, task.free);
     let mut b = best;
     let mut i = 0;
     while i < count {
-        let p = table::layout_at(task.outputs, task.free, i);
+        let p = layouts::layout_at(task.outputs, task.free, i);
         let next = try_layout(task, s, k, p, b);
         b = next;
         i += 1;
@@ -101,7 +101,7 @@ fn hopeful(
         return false;
     }
     let cost = s.cost as usize + entry.price as usize;
-    if node::dear(task.cost_limit, cost, s.len + 1, best) {
+    if offers::dear(task.cost_limit, cost, s.len + 1, best) {
         return false;
     }
     let wanted = task.wanted;
@@ -151,7 +151,7 @@ fn dfs(
                 extra: 0,
                 needs: 0,
             };
-            let node = node::advance(&table, task, none, s, entry);
+            let node = advancing::advance(&table, task, none, s, entry);
             let found = dfs(gates, prices, durations, task, node, remaining - 1, k, b);
             b = found;
         }

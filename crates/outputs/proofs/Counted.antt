@@ -10,7 +10,7 @@ use lib.Bits.{bitAnd}
 use lib.Dec.{eqb}
 use Rattle.logic.specs.Rules.{both, pick, bit, allBelow}
 use Rattle.logic.proofs.Counts.{count-le}
-use Rattle.table.specs.Layouts.{Width}
+use Rattle.layouts.specs.Layouts.{Width}
 use Rattle.columns.specs.declared.Wanted.{Wanted}
 use Rattle.outputs.specs.Owed.{missed, alone, owed}
 

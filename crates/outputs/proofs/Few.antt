@@ -23,8 +23,8 @@ use Rattle.gate.specs.Inner.{firing, columnStep}
 use Rattle.gate.proofs.Widen.{parts}
 use Rattle.gate.proofs.Slices.{length-step}
 use Rattle.circuit.specs.Inner.{columnsAfter}
-use Rattle.table.specs.Layouts.{Width, wireOf, layoutsFor}
-use Rattle.table.proofs.Layouts.{wire-within, wire-once, wire-fixed}
+use Rattle.layouts.specs.Layouts.{Width, wireOf, layoutsFor}
+use Rattle.layouts.proofs.Layouts.{wire-within, wire-once, wire-fixed}
 use Rattle.columns.specs.declared.Wanted.{Wanted}
 use Rattle.columns.specs.Wanted.{fitting, fits, met, dirt, tidy}
 use Rattle.columns.specs.Finish.{Finish}

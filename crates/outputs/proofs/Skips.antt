@@ -13,8 +13,8 @@ use Rattle.logic.specs.Rules.{both, pick, bit, someBelow, countBelow}
 use Rattle.logic.proofs.Counts.{count-split, count-more, not-some}
 use Rattle.gate.specs.Gates.{targetOf, gateOf}
 use Rattle.gate.specs.Inner.{columnStep}
-use Rattle.table.specs.Layouts.{Width, wireOf, layoutsFor}
-use Rattle.table.proofs.Layouts.{wire-within, wire-fixed}
+use Rattle.layouts.specs.Layouts.{Width, wireOf, layoutsFor}
+use Rattle.layouts.proofs.Layouts.{wire-within, wire-fixed}
 use Rattle.columns.specs.declared.Wanted.{Wanted}
 use Rattle.columns.specs.Wanted.{fitting, dirt, tidy}
 use Rattle.columns.specs.Finish.{Finish}

@@ -19,8 +19,8 @@ use Rattle.logic.proofs.Xor.{xor-mends}
 use Rattle.gate.specs.Gates.{targetOf, maskOf, kindFor, lawful, gateOf}
 use Rattle.gate.specs.Inner.{firing, columnStep}
 use Rattle.gate.proofs.Widen.{parts}
-use Rattle.table.specs.Layouts.{Width, wireOf, layoutsFor}
-use Rattle.table.proofs.Layouts.{wire-within, wire-fixed}
+use Rattle.layouts.specs.Layouts.{Width, wireOf, layoutsFor}
+use Rattle.layouts.proofs.Layouts.{wire-within, wire-fixed}
 use Rattle.columns.specs.declared.Wanted.{Wanted}
 use Rattle.columns.specs.Wanted.{misses, allRows, dirt, tidy}
 use Rattle.columns.specs.Finish.{Finish}

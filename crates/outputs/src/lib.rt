@@ -6,7 +6,7 @@ ghost use lib.Dec.{eqb};
 ghost use lib.ListN.{getD};
 ghost use mathlib.Core.List.{List};
 ghost use Rattle.logic.specs.Rules.{pick, bit, allBelow};
-ghost use Rattle.table.specs.Layouts.{Width};
+ghost use Rattle.layouts.specs.Layouts.{Width};
 ghost use Rattle.columns.specs.declared.Wanted.{Wanted};
 ghost use Rattle.columns.specs.Wanted.{fitting, dirt};
 ghost use Rattle.outputs.specs.Owed.{missed, owed};

@@ -1,3 +1,1 @@
 pub mod Parity
-pub mod Ends
-pub mod Inner

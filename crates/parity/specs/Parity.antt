@@ -7,7 +7,8 @@ use Rattle.logic.specs.Rules.{both, pick}
 use Rattle.logic.specs.Lists.{allOf, total}
 use Rattle.logic.specs.Answers.{Answer, refused, answered, answerOf}
 use Rattle.table.specs.Rows.{careOf, valueOf}
-use Rattle.record.specs.Jobs.{dataWires, rows, jobCode}
+use Rattle.record.specs.JobRules.{jobCode}
+use Rattle.fields.specs.Jobs.{dataWires, rows}
 use Rattle.parity.specs.declared.TableParity.{TableParity}
 use Rattle.parity.specs.declared.TableParity.the-variants.{Refused, Even, Odd, Neither}
 

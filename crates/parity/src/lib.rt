@@ -106,15 +106,15 @@ fn inversions(rows: &[u8]) -> usize
 fn permutes(job: &[u8]) -> bool
     ensures { λ r. ⌜ r ≡ permutes (now (job .entry)) ⌝ }
 {
-    let rows = record::table(job);
-    logic::both(all_full(record::data_wires(job), rows), distinct(rows))
+    let rows = fields::table(job);
+    logic::both(all_full(fields::data_wires(job), rows), distinct(rows))
 }
 
 // Whether the table is an odd permutation.
 pub fn odd_table(job: &[u8]) -> bool
     ensures { λ r. ⌜ r ≡ isOdd (tableParity (now (job .entry))) ⌝ }
 {
-    logic::both(permutes(job), inversions(record::table(job)) == 1)
+    logic::both(permutes(job), inversions(fields::table(job)) == 1)
 }
 
 fn table_parity(job: &[u8]) -> TableParity
@@ -123,7 +123,7 @@ fn table_parity(job: &[u8]) -> TableParity
     if !permutes(job) {
         return TableParity::Neither;
     }
-    if inversions(record::table(job)) == 1 {
+    if inversions(fields::table(job)) == 1 {
         TableParity::Odd
     } else {
         TableParity::Even

@@ -1,20 +1,15 @@
 -- What the scan finds. No public contract cites this.
 use mathlib.Core.Path.{_≡_}
 use mathlib.Core.Bool.{true, false}
-use mathlib.Core.List.{List, [], _∷_}
+use mathlib.Core.List.{List}
 use mathlib.Core.Option.{Option, none, some}
-use Prim.Native.Nat.{ℕ, _+_, _*_, _≤_}
+use Prim.Native.Nat.{ℕ, _+_, _≤_}
 use lib.ListN.{length, take, drop}
 use Rattle.logic.specs.Rules.{pick}
-use Rattle.windows.specs.declared.Prices.{Prices}
 use Rattle.windows.specs.Windows.{windowAt, replaced}
 use Rattle.windows.specs.Inner.{Still}
 use Rattle.peephole.specs.declared.Offer.{Offer}
 use Rattle.peephole.specs.declared.Hit.{Hit}
-
--- the twelve bytes before the table of a window's job
-abbrev pub jobHead : ℕ → Prices → ℕ → List ℕ
-jobHead n p len = 32 * n ∷ len ∷ 255 ∷ 255 ∷ 255 ∷ 255 ∷ p .not ∷ p .cnot ∷ p .toffoli ∷ 1 ∷ 1 ∷ 1 ∷ []
 
 -- the gates on offer, where they are cheaper
 unfoldable pub offered : Offer → Option (List ℕ)

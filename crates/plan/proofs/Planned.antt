@@ -15,7 +15,7 @@ use Rattle.logic.proofs.Counts.{bit-le}
 use Rattle.logic.proofs.Chain.{either-none}
 use Rattle.gate.specs.Gates.{targetOf, gateOf}
 use Rattle.gate.specs.Inner.{columnStep}
-use Rattle.table.specs.Layouts.{Width}
+use Rattle.layouts.specs.Layouts.{Width}
 use Rattle.columns.specs.declared.Wanted.{Wanted}
 use Rattle.columns.specs.Wanted.{misses, fitting, tidy}
 use Rattle.outputs.specs.Owed.{alone, owed, spoilt, due, lost, mends, worth}

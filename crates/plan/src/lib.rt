@@ -6,7 +6,7 @@ ghost use mathlib.Core.List.{List};
 ghost use Prim.Native.Nat.{ℕ, _≤_, _<_};
 ghost use lib.ListN.{length};
 ghost use Rattle.gate.specs.Gates.{targetOf, lawful};
-ghost use Rattle.table.specs.Layouts.{Width};
+ghost use Rattle.layouts.specs.Layouts.{Width};
 ghost use Rattle.columns.specs.declared.Wanted.{Wanted};
 ghost use Rattle.columns.specs.Wanted.{tidy};
 ghost use Rattle.outputs.specs.Owed.{Controls, lost, worth};

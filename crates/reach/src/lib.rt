@@ -1,181 +1,23 @@
 // A lossy set of states in a slice of bits. A state is put in whole, without each wire, and without each two; so one can ask for a state of which
 // one or two wires are still open. A collision only makes the set larger.
+use hashes::Reach;
 ghost use mathlib.Core.Path.{_≡_};
-ghost use mathlib.Core.Bool.{Bool, true, false, not};
-ghost use Prim.Native.Nat.{ℕ, _-_, _≤_, _<_};
-ghost use lib.ListN.{length, getD};
-ghost use lib.Dec.{eqb};
-ghost use Rattle.logic.specs.Rules.{pick, bit, someBelow};
+ghost use mathlib.Core.Bool.{Bool, false, not};
+ghost use Prim.Native.Nat.{ℕ, _≤_, _<_};
+ghost use Rattle.logic.specs.Rules.{bit, someBelow};
 ghost use Rattle.logic.specs.Bit.{bitOf};
 ghost use Rattle.gate.specs.Gates.{targetOf};
-ghost use Rattle.reach.specs.Reach.{shareOf, sharesOf, partOf, keyOf, litAt, Grown, held, SeenBut, openOn};
-
-// A filter beside its bits: within how many gates of what is wanted its states are, how many bits it has, the rows that it looks at, and a
-// factor for each wire's share of a hash.
-pub struct Reach {
-    pub radius: usize,
-    pub size: u32,
-    pub rows: u16,
-    pub factors: [u32; 5],
-}
-
-// A column's share of a hash.
-fn share(factor: u32, column: u16) -> u32
-    ensures { λ r. ⌜ r ≡ shareOf factor column ⌝ }
-{
-    let x = column as usize * factor as usize;
-    ((x ^ (x >> 23)) % 4294967296 * 2654435761 % 4294967296) as u32
-}
-
-// The shares of the five wires.
-pub fn shares(reach: Reach, columns: [u16; 5]) -> [u32; 5]
-    ensures { λ r. ⌜ r ≡ sharesOf reach columns ⌝ }
-{
-    let factors = reach.factors;
-    let rows = reach.rows;
-    [
-        share(factors[0], columns[0] & rows),
-        share(factors[1], columns[1] & rows),
-        share(factors[2], columns[2] & rows),
-        share(factors[3], columns[3] & rows),
-        share(factors[4], columns[4] & rows),
-    ]
-}
-
-// The number at `w` of five, or 0 past the end.
-pub fn word_at(words: [u32; 5], w: usize) -> usize
-    ensures { λ r. ⌜ r ≡ getD words w 0 ⌝ }
-    ensures { λ r. ⌜ r < 4294967296 ⌝ }
-{
-    if w < 5 { words[w] as usize } else { 0 }
-}
-
-// The hash of the whole state.
-fn whole(shares: [u32; 5]) -> usize
-    ensures { λ r. ⌜ r ≡ partOf shares 5 5 ⌝ }
-{
-    word_at(shares, 4)
-        + (word_at(shares, 3) + (word_at(shares, 2) + (word_at(shares, 1) + word_at(shares, 0))))
-}
-
-// The place of a hash in a set of `size` bits: a word, and two bits of it.
-fn key(size: u32, hash: usize) -> usize
-    ensures { λ r. ⌜ r ≡ keyOf size hash ⌝ }
-{
-    hash % 4294967296 * size as usize / 67108864
-}
-
-// Whether both bits of a place are set; past the end every bit is. A state that is not in seldom finds both set by others, and both are read at
-// once.
-fn lit(bits: &[u64], k: usize) -> bool
-    ensures { λ r. ⌜ r ≡ litAt (now (bits .entry)) k ⌝ }
-{
-    let i = k / 4096;
-    if i < bits.len() {
-        let word = bits[i];
-        logic::both(
-            (word >> (k / 64 % 64)) % 2 == 1,
-            (word >> (k % 64)) % 2 == 1,
-        )
-    } else {
-        true
-    }
-}
-
-// Sets both bits of a place.
-fn light(k: usize, bits: &mut [u64])
-    ensures { λ r. ⌜ length (now (bits .exit)) ≡ length (now (bits .entry)) ⌝ }
-    ensures { λ r. ⌜ Grown (now (bits .entry)) (now (bits .exit)) ⌝ }
-    ensures { λ r. ⌜ litAt (now (bits .exit)) k ≡ true ⌝ }
-{
-    let i = k / 4096;
-    let one: u64 = 1;
-    if i < bits.len() {
-        bits[i] = bits[i] | (one << (k / 64 % 64)) | (one << (k % 64));
-    }
-}
-
-// Puts a hash into a set of `size` bits.
-fn mark(size: u32, hash: usize, bits: &mut [u64])
-    ensures { λ r. ⌜ length (now (bits .exit)) ≡ length (now (bits .entry)) ⌝ }
-    ensures { λ r. ⌜ Grown (now (bits .entry)) (now (bits .exit)) ⌝ }
-    ensures { λ r. ⌜ litAt (now (bits .exit)) (keyOf size hash) ≡ true ⌝ }
-{
-    light(key(size, hash), bits);
-}
-
-// Puts in what is left of a hash without the share of wire `w`, unless that is in already, as for wire `but`.
-fn mark_unless(but: usize, w: usize, size: u32, hash: usize, bits: &mut [u64])
-    ensures { λ r. ⌜ length (now (bits .exit)) ≡ length (now (bits .entry)) ⌝ }
-    ensures { λ r. ⌜ Grown (now (bits .entry)) (now (bits .exit)) ⌝ }
-    ensures { λ r. ⌜ ((w ≡ but → ⊥) → litAt (now (bits .exit)) (keyOf size hash) ≡ true) ⌝ }
-{
-    if w != but {
-        mark(size, hash, bits);
-    }
-}
-
-// Puts in what is left of a hash without each of the first `count` shares, but for that of wire `but`.
-fn mark_less(size: u32, hash: usize, shares: [u32; 5], count: usize, but: usize, bits: &mut [u64])
-    requires { ⌜ count ≤ 5 ⌝ }
-    requires { ⌜ ((w : ℕ) → w < count → getD shares w 0 ≤ hash) ⌝ }
-    ensures { λ r. ⌜ length (now (bits .exit)) ≡ length (now (bits .entry)) ⌝ }
-    ensures { λ r. ⌜ Grown (now (bits .entry)) (now (bits .exit)) ⌝ }
-    ensures { λ r. ⌜ ((w : ℕ) → w < count → (w ≡ but → ⊥) → litAt (now (bits .exit)) (keyOf size (hash - getD shares w 0)) ≡ true) ⌝ }
-{
-    let mut w = 0;
-    while w < count {
-        mark_unless(but, w, size, hash - word_at(shares, w), bits);
-        w += 1;
-    }
-}
-
-// How many pairs a wire has with those before it; none where its share is 0, since without it nothing changes, and for wire `but`.
-fn pairs(share: usize, a: usize, but: usize) -> usize
-    ensures { λ r. ⌜ r ≡ pick (eqb a but) 0 (pick (eqb share 0) 0 a) ⌝ }
-{
-    if a == but {
-        return 0;
-    }
-    if share == 0 { 0 } else { a }
-}
-
-// Puts in what is left of a hash without each two of its shares, but for those of 0 and that of wire `but`.
-fn mark_pairs(size: u32, hash: usize, shares: [u32; 5], but: usize, bits: &mut [u64])
-    requires { ⌜ hash ≡ partOf shares 5 5 ⌝ }
-    ensures { λ r. ⌜ length (now (bits .exit)) ≡ length (now (bits .entry)) ⌝ }
-    ensures { λ r. ⌜ Grown (now (bits .entry)) (now (bits .exit)) ⌝ }
-    ensures { λ r. ⌜ ((a : ℕ) → a < 5 → (b : ℕ) → b < pick (eqb a but) 0 (pick (eqb (getD shares a 0) 0) 0 a) → (b ≡ but → ⊥) → litAt (now (bits .exit)) (keyOf size (hash - getD shares a 0 - getD shares b 0)) ≡ true) ⌝ }
-{
-    let mut a = 0;
-    while a < 5 {
-        let s = word_at(shares, a);
-        mark_less(size, hash - s, shares, pairs(s, a, but), but, bits);
-        a += 1;
-    }
-}
-
-// Puts a state in: whole, without each wire, and without each two, but for what leaves out wire `but`. After a gate all that leaves out its target
-// is in already, since it is as it was before.
-pub fn note(reach: Reach, columns: [u16; 5], but: usize, bits: &mut [u64])
-    ensures { λ r. ⌜ length (now (bits .exit)) ≡ length (now (bits .entry)) ⌝ }
-    ensures { λ r. ⌜ Grown (now (bits .entry)) (now (bits .exit)) ⌝ }
-    ensures { λ r. ⌜ SeenBut but (now (bits .exit)) reach columns ⌝ }
-{
-    let size = reach.size;
-    let parts = shares(reach, columns);
-    let hash = whole(parts);
-    mark(size, hash, bits);
-    mark_less(size, hash, parts, 5, but, bits);
-    mark_pairs(size, hash, parts, but, bits);
-}
+ghost use Rattle.hashes.specs.Reach.{sharesOf, partOf, held, openOn};
 
 // Whether a state is not in the set: then no list within the radius finishes from it.
 pub fn beyond(bits: &[u64], reach: Reach, columns: [u16; 5]) -> bool
     ensures { λ r. ⌜ r ≡ not (held (now (bits .entry)) (reach .size) (sharesOf reach columns) 5 5) ⌝ }
 {
     let size = reach.size;
-    !lit(bits, key(size, whole(shares(reach, columns))))
+    !hashes::lit(
+        bits,
+        hashes::key(size, hashes::whole(hashes::shares(reach, columns))),
+    )
 }
 
 // The hash without two wires, or without one that is named twice.
@@ -183,11 +25,11 @@ fn part(shares: [u32; 5], a: usize, b: usize) -> usize
     requires { ⌜ (a < 5) × (b < 5) ⌝ }
     ensures { λ r. ⌜ r ≡ partOf shares a b ⌝ }
 {
-    let rest = whole(shares) - word_at(shares, a);
+    let rest = hashes::whole(shares) - hashes::word_at(shares, a);
     if a == b {
         rest
     } else {
-        rest - word_at(shares, b)
+        rest - hashes::word_at(shares, b)
     }
 }
 
@@ -196,7 +38,7 @@ fn holds(bits: &[u64], size: u32, shares: [u32; 5], a: usize, b: usize) -> bool
     requires { ⌜ (a < 5) × (b < 5) ⌝ }
     ensures { λ r. ⌜ r ≡ held (now (bits .entry)) size shares a b ⌝ }
 {
-    lit(bits, key(size, part(shares, a, b)))
+    hashes::lit(bits, hashes::key(size, part(shares, a, b)))
 }
 
 // 1 where one of five holds.
@@ -255,10 +97,10 @@ pub fn open_wires(bits: &[u64], reach: Reach, columns: [u16; 5], left: usize) ->
     let size = reach.size;
     let radius = reach.radius;
     if left <= radius {
-        return open_alone(bits, size, shares(reach, columns));
+        return open_alone(bits, size, hashes::shares(reach, columns));
     }
     if left - 1 <= radius {
-        return open_pairs(bits, size, shares(reach, columns));
+        return open_pairs(bits, size, hashes::shares(reach, columns));
     }
     31
 }

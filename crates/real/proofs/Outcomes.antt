@@ -10,8 +10,8 @@ use lib.ListN.{length, take, drop, length-map}
 use Rattle.logic.specs.Rules.{both, pick}
 use Rattle.logic.specs.Answers.{Answer, refused, answered}
 use Rattle.logic.proofs.Chain.{both-left}
-use Rattle.table.specs.Layouts.{plain}
-use Rattle.record.specs.Circuits.{circuitBytes}
+use Rattle.layouts.specs.Layouts.{plain}
+use Rattle.fields.specs.Circuits.{circuitBytes}
 use Rattle.revlib.specs.Grammar.{Description, ancillaCount, dataCount, heading, headingOk, gateByte, recordOf}
 use Rattle.revlib.specs.Reading.{starts, linesAt, namesAt, constantsIn, headingHere, described, restOf, parse, outcomeOf, readOf, sizeOf, written}
 use Rattle.revlib.proofs.Exact.{name-count}

@@ -9,12 +9,13 @@ use lib.ListN.{length, drop, length-append}
 use Rattle.logic.specs.Lists.{allOf}
 use Rattle.gate.specs.Gates.{lawful}
 use Rattle.gate.proofs.Tables.{all-widen}
-use Rattle.record.specs.Jobs.{dataWires, ancillas, wires}
-use Rattle.record.specs.Circuits.{gates, circuitCode}
+use Rattle.fields.specs.Jobs.{dataWires, ancillas, wires}
+use Rattle.record.specs.CircuitRules.{circuitCode}
+use Rattle.fields.specs.Circuits.{gates}
 use Rattle.record.proofs.Kept.{circuit-wires-within}
-use Rattle.text.specs.Text.{inFront}
-use Rattle.text.specs.Writing.{Wrote}
-use Rattle.text.proofs.Pieces.{line-size, line-in-front}
+use Rattle.pieces.specs.Text.{inFront}
+use Rattle.pieces.specs.Writing.{Wrote}
+use Rattle.pieces.proofs.Pieces.{line-size, line-in-front}
 use Rattle.revlib.specs.Grammar.{body, render}
 use Rattle.revlib.specs.Writing.{Reply, lineFor, describe, textOf, textCode, writeOf, lengthOf, filled}
 use Rattle.revlib.proofs.RoundTrip.{text-rules, lawful-gates, text-short}

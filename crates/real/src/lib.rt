@@ -5,11 +5,11 @@ ghost use mathlib.Core.Bool.{true};
 ghost use Prim.Native.Nat.{_+_, _-_, _≤_, _<_};
 ghost use lib.ListN.{length, set, drop};
 ghost use Rattle.revlib.specs.Reading.{linesAt, parse, outcomeOf, readOf, sizeOf, written};
-ghost use Rattle.record.specs.Circuits.{circuitCode};
-ghost use Rattle.text.specs.Writing.{Wrote};
+ghost use Rattle.record.specs.CircuitRules.{circuitCode};
+ghost use Rattle.pieces.specs.Writing.{Wrote};
 ghost use Rattle.revlib.specs.Writing.{textOf, textCode, writeOf, lengthOf, filled};
 ghost use Rattle.real.specs.Answers.{parsedAnswer, sizeIn, renderedReply, lengthIn};
-ghost use Rattle.table.specs.Layouts.{plain};
+ghost use Rattle.layouts.specs.Layouts.{plain};
 ghost use Rattle.real.specs.Inner.{BodyIs, CircuitIs};
 
 // What reading a text answers: a refusal's number, or the record's length.
@@ -155,7 +155,7 @@ pub fn read(text: &[u8], answer: &mut [u8]) -> Parsed
         return Parsed::Refused(c.code);
     }
     let gates = c.gates;
-    let size = record::write_record(c.n, c.m, false, plain(c.n), gates, c.count, answer);
+    let size = writing::write_record(c.n, c.m, false, plain(c.n), gates, c.count, answer);
     Parsed::Record(size)
 }
 
@@ -163,11 +163,11 @@ pub fn read(text: &[u8], answer: &mut [u8]) -> Parsed
 fn text_code(circuit: &[u8]) -> u8
     ensures { λ r. ⌜ r ≡ textCode (now (circuit .entry)) ⌝ }
 {
-    let plain = plain(record::data_wires(circuit));
-    let laid = logic::rule(record::layout_of(circuit) == plain, 15, 0);
+    let plain = plain(fields::data_wires(circuit));
+    let laid = logic::rule(fields::layout_of(circuit) == plain, 15, 0);
     logic::and_then(
         record::circuit_code(circuit),
-        logic::rule(!record::marked(circuit), 8, laid),
+        logic::rule(!fields::marked(circuit), 8, laid),
     )
 }
 
@@ -176,9 +176,9 @@ fn text_size(circuit: &[u8]) -> usize
     requires { ⌜ circuitCode (now circuit) ≡ 0 ⌝ }
     ensures { λ r. ⌜ r ≡ length (textOf (now (circuit .entry))) ⌝ }
 {
-    let n = record::data_wires(circuit);
-    let m = record::ancillas(circuit);
-    rendering::heading_size(n, m) + rendering::body_size(record::gate_list(circuit))
+    let n = fields::data_wires(circuit);
+    let m = fields::ancillas(circuit);
+    rendering::heading_size(n, m) + rendering::body_size(fields::gate_list(circuit))
 }
 
 // Writes the text of a circuit that has one at the start of a buffer that holds it.
@@ -187,10 +187,10 @@ fn put_real(circuit: &[u8], out: &mut [u8]) -> usize
     requires { ⌜ length (textOf (now circuit)) ≤ length (now out) ⌝ }
     ensures { λ r. ⌜ Wrote (now (out .entry)) 0 (textOf (now (circuit .entry))) (now (out .exit)) r ⌝ }
 {
-    let n = record::data_wires(circuit);
-    let m = record::ancillas(circuit);
+    let n = fields::data_wires(circuit);
+    let m = fields::ancillas(circuit);
     let i = rendering::put_heading(out, n, m);
-    rendering::put_body(out, i, record::gate_list(circuit))
+    rendering::put_body(out, i, fields::gate_list(circuit))
 }
 
 // Writes the `.real` text of an unmarked circuit record with plain layout to `out`.

@@ -10,8 +10,9 @@ use lib.Dec.{leb}
 use lib.ListN.{length}
 use Rattle.logic.specs.Rules.{rule}
 use Rattle.logic.proofs.Chain.{rule-never}
-use Rattle.record.specs.Jobs.{jobLengthOk, sizeOk, headOk, limitOk, durationsOk, rowsOk, jobCode}
-use Rattle.record.specs.Circuits.{countOf, circuitLengthOk, shapeOk, layoutInOrder, countOk, gatesOk, circuitCode}
+use Rattle.record.specs.JobRules.{jobLengthOk, sizeOk, headOk, limitOk, durationsOk, rowsOk, jobCode}
+use Rattle.record.specs.CircuitRules.{circuitLengthOk, shapeOk, layoutInOrder, countOk, gatesOk, circuitCode}
+use Rattle.fields.specs.Circuits.{countOf}
 use Rattle.record.proofs.Kept.{short-enough}
 
 -- "Is the count at most 12? If not, 11.": the rule that went

@@ -16,11 +16,12 @@ use Rattle.gate.specs.Gates.{maskOf, lawful, kindFor, gateOf}
 use Rattle.gate.proofs.Widen.{parts}
 use Rattle.gate.proofs.Tables.{all-widen}
 use Rattle.circuit.specs.Measure.{weightFor, weightOf}
-use Rattle.table.specs.Layouts.{Width, layoutOk}
+use Rattle.layouts.specs.Layouts.{Width, layoutOk}
 use Rattle.table.specs.Rows.{rowOk}
-use Rattle.record.specs.Jobs.{longer, mostControls, dataWires, ancillas, wires, gateLimit, durations, durationOf, rows}
-use Rattle.record.specs.Jobs.{jobLengthOk, sizeOk, headOk, limitOk, durationsOk, rowsOk, jobCode}
-use Rattle.record.specs.Circuits.{marked, controlsOf, layoutOf, gates, circuitLengthOk, shapeOk, layoutInOrder, countOk, gatesOk, circuitCode}
+use Rattle.fields.specs.Jobs.{longer, mostControls, dataWires, ancillas, wires, gateLimit, durations, durationOf, rows}
+use Rattle.record.specs.JobRules.{jobLengthOk, sizeOk, headOk, limitOk, durationsOk, rowsOk, jobCode}
+use Rattle.record.specs.CircuitRules.{circuitLengthOk, shapeOk, layoutInOrder, countOk, gatesOk, circuitCode}
+use Rattle.fields.specs.Circuits.{marked, controlsOf, layoutOf, gates}
 use Rattle.record.specs.Inner.{jobRest, circuitRest}
 
 pub record SoundJob (job : List ℕ) : Type 0 where

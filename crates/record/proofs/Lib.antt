@@ -1,5 +1,4 @@
 pub mod Kept
-pub mod Rest
 pub mod Eleven
 pub mod Written
 pub mod Long

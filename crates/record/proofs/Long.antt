@@ -8,8 +8,9 @@ use borrow.Author.Tests.{ne-eqb, lt-leb}
 use lib.Dec.{leb}
 use lib.ListN.{length}
 use Rattle.logic.proofs.Chain.{both-second}
-use Rattle.record.specs.Jobs.{longer, jobLengthOk, jobCode}
-use Rattle.record.specs.Circuits.{circuitLengthOk, circuitCode}
+use Rattle.record.specs.JobRules.{jobLengthOk, jobCode}
+use Rattle.fields.specs.Jobs.{longer}
+use Rattle.record.specs.CircuitRules.{circuitLengthOk, circuitCode}
 
 pub long-job : (job : List ℕ) → 30 < length job → jobCode job ≡ 1
 unfolding jobCode jobLengthOk longer

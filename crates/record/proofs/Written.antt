@@ -1,22 +1,22 @@
--- A record by its n, m, layout and gates: its fields, the rules it keeps, and how it stands at the start of a buffer.
+-- A record by its n, m, layout and gates: its fields, and the rules it keeps.
 use mathlib.Core.Path.{_≡_, refl, sym, ap, ap₂, _∙_, subst}
 use mathlib.Core.Bool.{Bool, true, false}
 use mathlib.Core.Logic.{⊎-elim}
-use mathlib.Core.List.{List, _∷_, _++_}
+use mathlib.Core.List.{List, _∷_}
 use Prim.Native.Nat.{ℕ, zero, suc, _+_, _-_, _*_, _/_, _%_, _≤_, _<_}
 use native.Mathlib.Omega.{arith}
 use borrow.Author.Tests.{eq-eqb, ne-eqb, le-leb, eqb-true}
 use lib.Dec.{eqb, leb, lit<}
-use lib.ListN.{length, getD, take, drop, length-drop}
-use lib.Seq.{length-take-le, take-length, drop-cons}
+use lib.ListN.{length, getD, drop, length-drop}
+use lib.Seq.{drop-cons}
 use Rattle.logic.specs.Rules.{both, either, pick, bit}
 use Rattle.logic.specs.Lists.{allOf}
 use Rattle.logic.proofs.Chain.{both-right, both-true, either-first, either-second, rule-kept}
 use Rattle.gate.specs.Gates.{lawful}
-use Rattle.table.specs.Layouts.{Width, layoutOk}
-use Rattle.record.specs.Jobs.{dataWires, ancillas, wires}
-use Rattle.record.specs.Circuits.{marked, controlsOf, layoutOf, countOf, gates, headByte, circuitBytes}
-use Rattle.record.specs.Circuits.{circuitLengthOk, shapeOk, layoutInOrder, countOk, circuitCode}
+use Rattle.layouts.specs.Layouts.{Width, layoutOk}
+use Rattle.fields.specs.Jobs.{dataWires, ancillas, wires}
+use Rattle.fields.specs.Circuits.{marked, controlsOf, layoutOf, countOf, gates, headByte, circuitBytes}
+use Rattle.record.specs.CircuitRules.{circuitLengthOk, shapeOk, layoutInOrder, countOk, circuitCode}
 use Rattle.record.proofs.Kept.{long-enough}
 
 -- what byte 0 holds
@@ -109,23 +109,6 @@ module _ (n m : ℕ) (mark : Bool) (p : ℕ) (l : List ℕ) (spare : m ≤ 1) wh
             eq-eqb (countOf bytes) (length bytes - 3) count-kept,
             gates-kept,
           )
-
-front : (h l k : ℕ) (path : List ℕ) (len : ℕ) → take (3 + len) (h ∷ l ∷ k ∷ path) ≡ h ∷ l ∷ k ∷ take len path
-front h l k path len = let e : 3 + len ≡ suc (suc (suc len)) = omega arith in rw e
-
--- the front of a whole record, copied to the start of a buffer
-pub copied : (n m : ℕ) (mark : Bool) (p : ℕ) (path bytes answer out : List ℕ) (len : ℕ) → bytes ≡ headByte n m mark ∷ p ∷ len ∷ path → len ≤ length path
-    → out ≡ take (length (take (3 + len) bytes)) (take (3 + len) bytes) ++ drop (length (take (3 + len) bytes)) answer
-    → out ≡ circuitBytes n m mark p (take len path) ++ drop (3 + len) answer
-unfolding circuitBytes
-copied n m mark p path bytes answer out len e small o =
-    let f = ap (take (3 + len)) e ∙ front (headByte n m mark) p len path len in
-    let k : length (take (3 + len) bytes) ≡ 3 + len = ap length f ∙ rw (length-take-le len path small) (omega arith) in
-    o ∙ rw (take-length (take (3 + len) bytes), k, f, length-take-le len path small)
-
-pub record-size : (n m : ℕ) (mark : Bool) (p : ℕ) (path : List ℕ) (len : ℕ) → len ≤ length path → 3 + len ≡ length (circuitBytes n m mark p (take len path))
-unfolding circuitBytes
-record-size n m mark p path len small = rw (length-take-le len path small) (omega arith)
 
 -- a circuit that breaks no rule is the record of its own fields
 module _ (c : List ℕ) (sound : circuitCode c ≡ 0) where

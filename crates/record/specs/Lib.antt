@@ -1,4 +1,4 @@
-pub mod Jobs
-pub mod Circuits
+pub mod JobRules
+pub mod CircuitRules
 pub mod Answers
 pub mod Inner

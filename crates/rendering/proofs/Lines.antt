@@ -19,9 +19,9 @@ use Rattle.gate.specs.declared.Kind.the-variants.{Not, Cnot, Toffoli, Cccnot}
 use Rattle.gate.specs.Gates.{lawful, targetOf, maskOf, kindFor, gateOf}
 use Rattle.gate.proofs.Widen.{parts, widen}
 use Rattle.gate.proofs.Published.{wires-inside}
-use Rattle.table.specs.Layouts.{Width}
-use Rattle.text.specs.Writing.{over, Wrote}
-use Rattle.text.proofs.Pieces.{over-append}
+use Rattle.layouts.specs.Layouts.{Width}
+use Rattle.pieces.specs.Writing.{over, Wrote}
+use Rattle.pieces.proofs.Pieces.{over-append}
 use Rattle.revlib.specs.Grammar.{bytes, spaced, numvarsLine, variablesLine, constantsLine, constantsWord, heading, gateLine, body}
 use Rattle.revlib.specs.Writing.{lineFor, lettersFor, constantsFor}
 use Rattle.rendering.specs.Parts.{headingFor}

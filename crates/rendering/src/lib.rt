@@ -7,8 +7,8 @@ ghost use Prim.Native.Nat.{_+_, _≤_, _<_};
 ghost use lib.ListN.{length};
 ghost use Rattle.logic.specs.Lists.{allOf};
 ghost use Rattle.gate.specs.Gates.{lawful};
-ghost use Rattle.table.specs.Layouts.{Width};
-ghost use Rattle.text.specs.Writing.{Wrote};
+ghost use Rattle.layouts.specs.Layouts.{Width};
+ghost use Rattle.pieces.specs.Writing.{Wrote};
 ghost use Rattle.revlib.specs.Grammar.{gateLine, body};
 ghost use Rattle.revlib.specs.Writing.{letter, lineFor};
 ghost use Rattle.rendering.specs.Parts.{headingFor};
@@ -62,15 +62,15 @@ fn put_line(out: &mut [u8], i: usize, b: u8) -> usize
     match k {
         Kind::Not => {
             let word = [b't', b'1', b' ', t, b'\n'];
-            text::put_text(out, i, &word)
+            pieces::put_text(out, i, &word)
         }
         Kind::Cnot(a) => {
             let word = [b't', b'2', b' ', letter(a), b' ', t, b'\n'];
-            text::put_text(out, i, &word)
+            pieces::put_text(out, i, &word)
         }
         Kind::Toffoli(a, d) => {
             let word = [b't', b'3', b' ', letter(a), b' ', letter(d), b' ', t, b'\n'];
-            text::put_text(out, i, &word)
+            pieces::put_text(out, i, &word)
         }
         // Two controls are the most that a text has.
         Kind::Cccnot(_, _, _) => i,
@@ -89,7 +89,7 @@ pub fn put_body(out: &mut [u8], i: usize, gates: &[u8]) -> usize
         at = put_line(out, at, gates[k]);
         k += 1;
     }
-    text::put_text(out, at, b".end\n")
+    pieces::put_text(out, at, b".end\n")
 }
 
 // The length of the heading of n data wires and m ancillas.
@@ -107,13 +107,13 @@ fn put_three(out: &mut [u8], m: usize) -> usize
     ensures { λ r. ⌜ Wrote (now (out .entry)) 0 (headingFor 3 m) (now (out .exit)) r ⌝ }
 {
     if m == 0 {
-        text::put_text(
+        pieces::put_text(
             out,
             0,
             b".version 2.0\n.numvars 3\n.variables a b c\n.begin\n",
         )
     } else {
-        text::put_text(
+        pieces::put_text(
             out,
             0,
             b".version 2.0\n.numvars 4\n.variables a b c d\n.constants ---0\n.begin\n",
@@ -127,13 +127,13 @@ fn put_four(out: &mut [u8], m: usize) -> usize
     ensures { λ r. ⌜ Wrote (now (out .entry)) 0 (headingFor 4 m) (now (out .exit)) r ⌝ }
 {
     if m == 0 {
-        text::put_text(
+        pieces::put_text(
             out,
             0,
             b".version 2.0\n.numvars 4\n.variables a b c d\n.begin\n",
         )
     } else {
-        text::put_text(
+        pieces::put_text(
             out,
             0,
             b".version 2.0\n.numvars 5\n.variables a b c d e\n.constants ----0\n.begin\n",

@@ -1,2 +1,1 @@
-pub mod Meanings
 pub mod Report

@@ -2,10 +2,10 @@
 use mathlib.Core.List.{List, _++_}
 use Prim.Native.Nat.{ℕ}
 use Rattle.logic.specs.Answers.{Answer, refused, answered}
-use Rattle.verify.specs.declared.Measures.{Measures}
+use Rattle.measures.specs.declared.Measures.{Measures}
 use Rattle.logic.specs.Words.{bytes}
-use Rattle.text.specs.Text.{decimal, spaced, lineFeed, refusedLine}
-use Rattle.report.specs.Meanings.{meaning}
+use Rattle.pieces.specs.Text.{decimal, spaced, lineFeed, refusedLine}
+use Rattle.meanings.specs.Meanings.{meaning}
 
 -- `passed GATES COST DEPTH`
 unfoldable pub passedLine : Measures → List ℕ

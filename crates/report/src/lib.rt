@@ -1,131 +1,14 @@
 // What is printed for an answer, as bytes written into a lent buffer.
-use text::put_text;
+use measures::Measures;
+use pieces::put_text;
 use verify::Measured;
-use verify::Measures;
 ghost use mathlib.Core.Path.{_≡_};
 ghost use Prim.Native.Nat.{_+_, _≤_};
 ghost use lib.ListN.{length};
 ghost use Rattle.verify.specs.Calls.{measuredAnswer};
-ghost use Rattle.text.specs.Text.{inFront};
-ghost use Rattle.text.specs.Writing.{Wrote};
-ghost use Rattle.report.specs.Meanings.{otherMeaning, listingMeaning, libraryMeaning, verifyMeaning, circuitMeaning, meaning};
+ghost use Rattle.pieces.specs.Text.{inFront};
+ghost use Rattle.pieces.specs.Writing.{Wrote};
 ghost use Rattle.report.specs.Report.{passedLine, times, readyLine, passedText, refusedText, reportOf};
-
-fn put_other_meaning(out: &mut [u8], i: usize, code: u8) -> usize
-    requires { ⌜ i + 64 ≤ length (now out) ⌝ }
-    ensures { λ r. ⌜ Wrote (now (out .entry)) i (otherMeaning code) (now (out .exit)) r ⌝ }
-{
-    match code {
-        13 => put_text(out, i, b"the answer buffer has fewer than 15 bytes"),
-        14 => put_text(out, i, b"no circuit within the limits realizes the table"),
-        20 => put_text(out, i, b"the value does not fit the circuit's wires"),
-        22 => put_text(out, i, b"the text departs from the form of a circuit"),
-        23 => put_text(out, i, b"the text has more than 12 gates"),
-        26 => put_text(
-            out,
-            i,
-            b"the batch is not up to 64 whole records of 20 or 28 bytes",
-        ),
-        27 => put_text(out, i, b"the answers or the statuses have too few bytes"),
-        38 => put_text(
-            out,
-            i,
-            b"the jobs differ in more than one price, or limit the cost",
-        ),
-        _ => put_text(out, i, b"no rule has this number"),
-    }
-}
-
-fn put_listing_meaning(out: &mut [u8], i: usize, code: u8) -> usize
-    requires { ⌜ i + 64 ≤ length (now out) ⌝ }
-    ensures { λ r. ⌜ Wrote (now (out .entry)) i (listingMeaning code) (now (out .exit)) r ⌝ }
-{
-    match code {
-        32 => put_text(
-            out,
-            i,
-            b"the wires are not 3 or 4, or the window is not 2 to 4 gates",
-        ),
-        33 => put_text(out, i, b"the list has more than 4,096 gates"),
-        34 => put_text(
-            out,
-            i,
-            b"a gate of the list is not lawful, or has three controls",
-        ),
-        _ => put_other_meaning(out, i, code),
-    }
-}
-
-fn put_library_meaning(out: &mut [u8], i: usize, code: u8) -> usize
-    requires { ⌜ i + 64 ≤ length (now out) ⌝ }
-    ensures { λ r. ⌜ Wrote (now (out .entry)) i (libraryMeaning code) (now (out .exit)) r ⌝ }
-{
-    match code {
-        29 => put_text(
-            out,
-            i,
-            b"the library is not up to 75 entries of three bytes each",
-        ),
-        30 => put_text(
-            out,
-            i,
-            b"an entry's gate, duration or place in the order is not lawful",
-        ),
-        31 => put_text(out, i, b"the circuit has a gate that is not in the library"),
-        _ => put_listing_meaning(out, i, code),
-    }
-}
-
-fn put_verify_meaning(out: &mut [u8], i: usize, code: u8) -> usize
-    requires { ⌜ i + 64 ≤ length (now out) ⌝ }
-    ensures { λ r. ⌜ Wrote (now (out .entry)) i (verifyMeaning code) (now (out .exit)) r ⌝ }
-{
-    match code {
-        12 => put_text(out, i, b"the circuit's wires are not those of the job"),
-        28 => put_text(
-            out,
-            i,
-            b"the circuit is marked for three controls and the job is not",
-        ),
-        15 => put_text(out, i, b"the job allows the plain layout only"),
-        16 => put_text(out, i, b"the circuit does not realize the table"),
-        24 => put_text(out, i, b"the ancilla does not end at 0 in every row"),
-        17 => put_text(out, i, b"the circuit has more gates than the gate limit"),
-        18 => put_text(out, i, b"the circuit costs more than the cost limit"),
-        19 => put_text(out, i, b"the circuit is deeper than the depth limit"),
-        _ => put_library_meaning(out, i, code),
-    }
-}
-
-fn put_circuit_meaning(out: &mut [u8], i: usize, code: u8) -> usize
-    requires { ⌜ i + 64 ≤ length (now out) ⌝ }
-    ensures { λ r. ⌜ Wrote (now (out .entry)) i (circuitMeaning code) (now (out .exit)) r ⌝ }
-{
-    match code {
-        7 => put_text(out, i, b"the circuit is not 3 to 15 bytes long"),
-        8 => put_text(out, i, b"the circuit's wires or spare bits are not lawful"),
-        9 => put_text(out, i, b"the layout does not name each data wire once"),
-        10 => put_text(out, i, b"the gate count is not the number of gate bytes"),
-        21 => put_text(out, i, b"a gate is not lawful for the circuit's wires"),
-        _ => put_verify_meaning(out, i, code),
-    }
-}
-
-// Writes what a refusal number means, without a line feed.
-fn put_meaning(out: &mut [u8], i: usize, code: u8) -> usize
-    requires { ⌜ i + 64 ≤ length (now out) ⌝ }
-    ensures { λ r. ⌜ Wrote (now (out .entry)) i (meaning code) (now (out .exit)) r ⌝ }
-{
-    match code {
-        1 => put_text(out, i, b"the job is not 20, 22, 28 or 30 bytes long"),
-        2 => put_text(out, i, b"the job's length does not fit its data wires"),
-        3 => put_text(out, i, b"the job's ancillas or spare bits are not lawful"),
-        4 => put_text(out, i, b"the gate limit is above 12"),
-        5 => put_text(out, i, b"a duration is 0"),
-        6 => put_text(out, i, b"a row has a 1 outside its care mask or outputs"),
-        _ => put_circuit_meaning(out, i, code),
-    }
-}
 
 // Writes `passed`, the gates, the cost and the depth at the start of the buffer.
 fn put_passed(out: &mut [u8], m: Measures) -> usize
@@ -133,21 +16,21 @@ fn put_passed(out: &mut [u8], m: Measures) -> usize
     ensures { λ r. ⌜ Wrote (now (out .entry)) 0 (passedLine m) (now (out .exit)) r ⌝ }
 {
     let a = put_text(out, 0, b"passed ");
-    let b = text::put_spaced(out, a, m.gates as usize);
-    let c = text::put_spaced(out, b, m.cost as usize);
-    let d = text::put_decimal(out, c, m.depth as usize);
-    text::put(out, d, b'\n')
+    let b = pieces::put_spaced(out, a, m.gates as usize);
+    let c = pieces::put_spaced(out, b, m.cost as usize);
+    let d = pieces::put_decimal(out, c, m.depth as usize);
+    pieces::put(out, d, b'\n')
 }
 
 fn put_times(out: &mut [u8], i: usize, m: Measures) -> usize
     requires { ⌜ i + 29 ≤ length (now out) ⌝ }
     ensures { λ r. ⌜ Wrote (now (out .entry)) i (times m) (now (out .exit)) r ⌝ }
 {
-    let a = text::put_spaced(out, i, m.ready0 as usize);
-    let b = text::put_spaced(out, a, m.ready1 as usize);
-    let c = text::put_spaced(out, b, m.ready2 as usize);
-    let d = text::put_spaced(out, c, m.ready3 as usize);
-    text::put_decimal(out, d, m.ready4 as usize)
+    let a = pieces::put_spaced(out, i, m.ready0 as usize);
+    let b = pieces::put_spaced(out, a, m.ready1 as usize);
+    let c = pieces::put_spaced(out, b, m.ready2 as usize);
+    let d = pieces::put_spaced(out, c, m.ready3 as usize);
+    pieces::put_decimal(out, d, m.ready4 as usize)
 }
 
 // Writes `ready` and when each wire comes free.
@@ -157,7 +40,7 @@ fn put_ready(out: &mut [u8], i: usize, m: Measures) -> usize
 {
     let a = put_text(out, i, b"ready ");
     let b = put_times(out, a, m);
-    text::put(out, b, b'\n')
+    pieces::put(out, b, b'\n')
 }
 
 // Writes the two lines of a pass at the start of the buffer, and answers their length.
@@ -177,8 +60,8 @@ pub fn refused_text(code: u8, out: &mut [u8]) -> usize
     ensures { λ _. ⌜ now (out .exit) ≡ inFront (refusedText code) (now (out .entry)) ⌝ }
 {
     let a = text::put_refused(out, 0, code);
-    let b = put_meaning(out, a, code);
-    text::put(out, b, b'\n')
+    let b = meanings::put_meaning(out, a, code);
+    pieces::put(out, b, b'\n')
 }
 
 // Writes what is printed for an answer of `verify` at the start of the buffer, and answers its length.

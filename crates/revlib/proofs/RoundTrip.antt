@@ -17,9 +17,10 @@ use Rattle.logic.proofs.Chain.{both-left, both-right, both-parts, both-true, im
 use Rattle.logic.proofs.Below.{below}
 use Rattle.gate.specs.Gates.{lawful, gateOf}
 use Rattle.gate.proofs.Widen.{lawful-lt}
-use Rattle.table.specs.Layouts.{Width, plain}
-use Rattle.record.specs.Jobs.{dataWires, ancillas, wires}
-use Rattle.record.specs.Circuits.{marked, layoutOf, gates, circuitCode, circuitBytes}
+use Rattle.layouts.specs.Layouts.{Width, plain}
+use Rattle.fields.specs.Jobs.{dataWires, ancillas, wires}
+use Rattle.record.specs.CircuitRules.{circuitCode}
+use Rattle.fields.specs.Circuits.{marked, layoutOf, gates, circuitBytes}
 use Rattle.record.proofs.Kept.{sound-circuit, circuit-wires-within}
 use Rattle.record.proofs.Written.{rebuilt}
 use Rattle.revlib.specs.Grammar.{bytes, Constants, Description, ancillaCount, spaced, numvarsLine, variablesLine, constantsLine, constantsWord, heading, gateLine, body, render, isIn, different, lowerCase, dataCount, headingOk, declared, lineOk, wellFormed, wireOf, gateByte, recordOf}

@@ -14,8 +14,8 @@ use Rattle.logic.specs.Lists.{allOf}
 use Rattle.logic.proofs.Chain.{both-left, both-right, both-parts, both-true, either-cases, either-neither, implied}
 use Rattle.logic.proofs.Below.{below}
 use Rattle.gate.specs.Gates.{lawful}
-use Rattle.table.specs.Layouts.{Width, plain, layoutOk}
-use Rattle.record.specs.Circuits.{circuitCode}
+use Rattle.layouts.specs.Layouts.{Width, plain, layoutOk}
+use Rattle.record.specs.CircuitRules.{circuitCode}
 use Rattle.record.proofs.Written.{circuit-kept}
 use Rattle.revlib.specs.Grammar.{Constants, unsaid, allData, oneAncilla, Description, ancillaCount, isIn, different, lowerCase, dataCount, headingOk, declared, lineOk, wellFormed, wireOf, gateByte, recordOf}
 use Rattle.revlib.proofs.Exact.{name-count, line-count}

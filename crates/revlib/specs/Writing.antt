@@ -9,9 +9,10 @@ use Rattle.logic.specs.Lists.{numbersFrom}
 use Rattle.gate.specs.declared.Kind.{Kind}
 use Rattle.gate.specs.declared.Kind.the-variants.{Not, Cnot, Toffoli, Cccnot}
 use Rattle.gate.specs.Gates.{gateOf}
-use Rattle.table.specs.Layouts.{plain}
-use Rattle.record.specs.Jobs.{dataWires, ancillas, wires}
-use Rattle.record.specs.Circuits.{marked, layoutOf, gates, circuitCode}
+use Rattle.layouts.specs.Layouts.{plain}
+use Rattle.fields.specs.Jobs.{dataWires, ancillas, wires}
+use Rattle.record.specs.CircuitRules.{circuitCode}
+use Rattle.fields.specs.Circuits.{marked, layoutOf, gates}
 use Rattle.revlib.specs.Grammar.{Constants, unsaid, oneAncilla, Description, render}
 
 -- a, b, c, .. in wire order

@@ -12,7 +12,7 @@ use Rattle.logic.specs.Words.{bytes}
 use Rattle.logic.specs.Answers.{refused, answered}
 use Rattle.logic.proofs.Answers.{refused-by, answered-is}
 use Rattle.logic.proofs.Prefixes.{told-by}
-use Rattle.text.proofs.Pieces.{place-short, decimal-short, spaced-short, hex-length}
+use Rattle.pieces.proofs.Pieces.{place-short, decimal-short, spaced-short, hex-length}
 use Rattle.report.specs.Report.{refusedText}
 use Rattle.windows.specs.declared.Prices.{Prices}
 use Rattle.windows.specs.Windows.{costAt, rewritten}

@@ -6,7 +6,7 @@ use Rattle.logic.specs.Words.{bytes}
 use Rattle.logic.specs.Lists.{total}
 use Rattle.gate.specs.Gates.{gateOf}
 use Rattle.circuit.specs.Measure.{weightOf}
-use Rattle.text.specs.Text.{place, decimal, spaced, hexDigit, hexOf}
+use Rattle.pieces.specs.Text.{place, decimal, spaced, hexDigit, hexOf}
 use Rattle.rewriting.specs.Rewriting.{millions, countLine, rewrittenText}
 
 -- 4,096 of the dearest gates, and what is left of them

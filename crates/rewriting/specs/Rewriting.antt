@@ -5,7 +5,7 @@ use Prim.Native.Nat.{ℕ}
 use lib.ListN.{length, getD, take}
 use Rattle.logic.specs.Answers.{Answer, refused, answered}
 use Rattle.logic.specs.Words.{bytes}
-use Rattle.text.specs.Text.{place, decimal, hexOf, spaced, lineFeed}
+use Rattle.pieces.specs.Text.{place, decimal, hexOf, spaced, lineFeed}
 use Rattle.report.specs.Report.{refusedText}
 use Rattle.windows.specs.declared.Prices.{Prices}
 use Rattle.windows.specs.Windows.{costAt, rewritten}

@@ -4,8 +4,8 @@ use windows::Prices;
 ghost use mathlib.Core.Path.{_≡_};
 ghost use Prim.Native.Nat.{_+_, _≤_};
 ghost use lib.ListN.{length};
-ghost use Rattle.text.specs.Text.{inFront};
-ghost use Rattle.text.specs.Writing.{Wrote};
+ghost use Rattle.pieces.specs.Text.{inFront};
+ghost use Rattle.pieces.specs.Writing.{Wrote};
 ghost use Rattle.windows.specs.Windows.{costAt};
 ghost use Rattle.windows.specs.Listings.{listLeft};
 ghost use Rattle.rewriting.specs.Rewriting.{millions, countLine, rewrittenText, wiresIn, windowIn, pricesIn, rewriteText, TellingList};
@@ -23,7 +23,7 @@ fn list_cost(list: &[u8], prices: Prices) -> usize
     requires { ⌜ length (now list) ≤ 65536 ⌝ }
     ensures { λ r. ⌜ r ≡ costAt prices (now (list .entry)) ⌝ }
 {
-    let weights = peephole::weights(prices);
+    let weights = listing::weights(prices);
     let mut sum = 0;
     let mut i = 0;
     while i < list.len() {
@@ -38,9 +38,9 @@ fn put_millions(out: &mut [u8], i: usize, n: usize) -> usize
     requires { ⌜ i + 7 ≤ length (now out) ⌝ }
     ensures { λ r. ⌜ Wrote (now (out .entry)) i (millions n) (now (out .exit)) r ⌝ }
 {
-    let a = text::put_place(out, i, n, 1000000);
-    let b = text::put_place(out, a, n, 100000);
-    text::put_decimal(out, b, n)
+    let a = pieces::put_place(out, i, n, 1000000);
+    let b = pieces::put_place(out, a, n, 100000);
+    pieces::put_decimal(out, b, n)
 }
 
 // Writes a word, a number of gates and a cost.
@@ -49,10 +49,10 @@ fn put_counts(out: &mut [u8], i: usize, word: &[u8], count: usize, cost: usize) 
     requires { ⌜ i + 21 ≤ length (now out) ⌝ }
     ensures { λ r. ⌜ Wrote (now (out .entry)) i (countLine (now (word .entry)) count cost) (now (out .exit)) r ⌝ }
 {
-    let a = text::put_text(out, i, word);
-    let b = text::put_spaced(out, a, count);
+    let a = pieces::put_text(out, i, word);
+    let b = pieces::put_spaced(out, a, count);
     let c = put_millions(out, b, cost);
-    text::put(out, c, b'\n')
+    pieces::put(out, c, b'\n')
 }
 
 // Writes what is printed for a list that was rewritten to the start of the buffer.
@@ -65,8 +65,8 @@ fn put_rewritten(count: usize, cost: usize, new: &[u8], prices: Prices, out: &mu
 {
     let a = put_counts(out, 0, b"before ", count, cost);
     let b = put_counts(out, a, b"after ", new.len(), list_cost(new, prices));
-    let c = text::put_hex(out, b, new);
-    text::put(out, c, b'\n')
+    let c = pieces::put_hex(out, b, new);
+    pieces::put(out, c, b'\n')
 }
 
 // The prices that stand before the gates in a file.

@@ -10,12 +10,14 @@ use Rattle.logic.specs.Rules.{pick}
 use Rattle.logic.specs.Lists.{allOf, total, along, back}
 use Rattle.gate.specs.Gates.{lawful, step, gateOf}
 use Rattle.circuit.specs.Measure.{weightOf, hold, greatest}
-use Rattle.table.specs.Layouts.{layoutOk, allowed, layoutsFor}
+use Rattle.layouts.specs.Layouts.{layoutOk, allowed, layoutsFor}
 use Rattle.table.specs.Rows.{rowOk, bitAgrees, rowAgrees, agreesFrom, clean, realizes}
-use Rattle.record.specs.Jobs.{longer, dataWires, ancillas, wires, freeLayout, gateLimit, costLimit, depthLimit, prices, durations}
-use Rattle.record.specs.Jobs.{jobLengthOk, sizeOk, headOk, limitOk, durationsOk, rowsOk, jobCode}
-use Rattle.record.specs.Circuits.{marked, layoutOf, countOf, circuitLengthOk, shapeOk, circuitCode, circuitBytes}
-use Rattle.verify.specs.Calls.{runCode, runOf, measuresOf, sameWires, markFits, circuitCodeFor, measureCode, measureOf, limitsCode, verifyRest, verifyCode, verifyOf}
+use Rattle.fields.specs.Jobs.{longer, dataWires, ancillas, wires, freeLayout, gateLimit, costLimit, depthLimit, prices, durations}
+use Rattle.record.specs.JobRules.{jobLengthOk, sizeOk, headOk, limitOk, durationsOk, rowsOk, jobCode}
+use Rattle.record.specs.CircuitRules.{circuitLengthOk, shapeOk, circuitCode}
+use Rattle.fields.specs.Circuits.{marked, layoutOf, countOf, circuitBytes}
+use Rattle.measures.specs.Measures.{measuresOf}
+use Rattle.verify.specs.Calls.{runCode, runOf, sameWires, markFits, circuitCodeFor, measureCode, measureOf, limitsCode, verifyRest, verifyCode, verifyOf}
 use Rattle.parity.specs.Parity.{full, distinct, permutes, smaller, inversions, tableParity, parityOf}
 use Rattle.choice.specs.Choices.{lexLess, before, keep, attempt, improve, under}
 use Rattle.problem.specs.Problems.{choiceOf, here, within, firstGood}

@@ -12,11 +12,12 @@ use Rattle.gate.specs.declared.Kind.the-variants.{Not, Cnot, Toffoli, Cccnot}
 use Rattle.gate.specs.Gates.{maskOf, lawful, step, gateOf}
 use Rattle.circuit.specs.declared.Weights.{Weights}
 use Rattle.circuit.specs.Measure.{weightOf, cost, depth}
-use Rattle.record.specs.Jobs.{jobCode}
-use Rattle.record.specs.Circuits.{circuitCode}
+use Rattle.record.specs.JobRules.{jobCode}
+use Rattle.record.specs.CircuitRules.{circuitCode}
 use Rattle.record.specs.Answers.{checkOf}
-use Rattle.verify.specs.declared.Measures.{Measures}
-use Rattle.verify.specs.Calls.{forwardsOf, backwardsOf, readyOf, measureOf, verifyOf}
+use Rattle.measures.specs.declared.Measures.{Measures}
+use Rattle.measures.specs.Measures.{readyOf}
+use Rattle.verify.specs.Calls.{forwardsOf, backwardsOf, measureOf, verifyOf}
 use Rattle.parity.specs.Parity.{Parity, even, odd, neither, parityOf}
 use Rattle.choice.specs.Choices.{lexLess}
 use Rattle.search.specs.Outcomes.{Found, searchOf}

@@ -11,10 +11,11 @@ use lib.ListN.{length, take, drop}
 use Rattle.logic.specs.Rules.{both, pick}
 use Rattle.logic.specs.Answers.{Answer, refused, answered}
 use Rattle.logic.proofs.Chain.{both-parts}
-use Rattle.record.specs.Jobs.{longer, mostControls, dataWires, ancillas, jobCode}
-use Rattle.record.specs.Circuits.{circuitBytes}
-use Rattle.verify.specs.declared.Measures.{Measures}
-use Rattle.verify.specs.Calls.{measuresOf}
+use Rattle.record.specs.JobRules.{jobCode}
+use Rattle.fields.specs.Jobs.{longer, mostControls, dataWires, ancillas}
+use Rattle.fields.specs.Circuits.{circuitBytes}
+use Rattle.measures.specs.declared.Measures.{Measures}
+use Rattle.measures.specs.Measures.{measuresOf}
 use Rattle.parity.specs.Parity.{isOdd, tableParity}
 use Rattle.parity.proofs.Odd.{odd-is}
 use Rattle.choice.specs.declared.Best.{Best}

@@ -17,15 +17,16 @@ use Rattle.logic.proofs.Chain.{and-then-zero, rule-kept}
 use Rattle.logic.proofs.Members.{among-all}
 use Rattle.gate.specs.Gates.{lawful}
 use Rattle.gate.proofs.Tables.{gate-is, among-lawful, lawful-among, all-widen}
-use Rattle.table.specs.Layouts.{allowed}
-use Rattle.table.proofs.Layouts.{layout-is, layout-has, allowed-ok}
-use Rattle.record.specs.Jobs.{longer, mostControls, dataWires, ancillas, wires, freeLayout, gateLimit, priceOf, durationOf, jobCode}
+use Rattle.layouts.specs.Layouts.{allowed}
+use Rattle.layouts.proofs.Layouts.{layout-is, layout-has, allowed-ok}
+use Rattle.record.specs.JobRules.{jobCode}
+use Rattle.fields.specs.Jobs.{longer, mostControls, dataWires, ancillas, wires, freeLayout, gateLimit, priceOf, durationOf}
 use Rattle.record.proofs.Kept.{sound-job, wires-within, two-or-three}
-use Rattle.verify.specs.Calls.{measuresOf}
+use Rattle.measures.specs.Measures.{measuresOf}
 use Rattle.parity.specs.Parity.{odd, tableParity}
-use Rattle.parity.specs.Ends.{threeControlGates}
-use Rattle.parity.proofs.Even.{none-of-three}
-use Rattle.parity.proofs.Never.{odd-needs-three}
+use Rattle.odd_tables.specs.Ends.{threeControlGates}
+use Rattle.odd_tables.proofs.Even.{none-of-three}
+use Rattle.odd_tables.proofs.Never.{odd-needs-three}
 use Rattle.choice.specs.Choices.{Choice}
 use Rattle.problem.specs.Problems.{Problem, firstGood}
 use Rattle.problem.specs.Demand.{Admitted, Solves, Winner}

@@ -14,12 +14,13 @@ use Rattle.gate.specs.Gates.{lawful}
 use Rattle.gate.proofs.Widen.{widen, parts}
 use Rattle.circuit.specs.Inner.{columnsAfter}
 use Rattle.table.specs.Rows.{realizes}
-use Rattle.record.specs.Jobs.{longer, mostControls, dataWires, wires, rows, jobCode}
+use Rattle.record.specs.JobRules.{jobCode}
+use Rattle.fields.specs.Jobs.{longer, mostControls, dataWires, wires, rows}
 use Rattle.record.proofs.Kept.{sound-job, wires-within, two-or-three}
 use Rattle.columns.specs.Wanted.{wantedOf, columnsOf, startColumns, reached}
 use Rattle.columns.proofs.Agreement.{met-agrees, tidy-clean}
-use Rattle.node.specs.declared.Task.{Task}
-use Rattle.node.specs.States.{Slices, Fair, Asks, Posed, Limited}
+use Rattle.states.specs.declared.Task.{Task}
+use Rattle.states.specs.States.{Slices, Fair, Asks, Posed, Limited}
 use Rattle.search.specs.Outcomes.{GateSet, problemOver}
 use Rattle.search.specs.Inner.{taskOf, Lawfuls, Tabled}
 

@@ -16,21 +16,24 @@ use Rattle.logic.proofs.Members.{member-at, all-member, among-all}
 use Rattle.gate.specs.Gates.{lawful}
 use Rattle.gate.proofs.Widen.{lawful-lt}
 use Rattle.gate.proofs.Tables.{lawful-among}
-use Rattle.table.specs.Layouts.{layoutOk, allowed}
+use Rattle.layouts.specs.Layouts.{layoutOk, allowed}
 use Rattle.table.specs.Rows.{realizes}
-use Rattle.table.proofs.Layouts.{layout-is, layout-has, allowed-ok}
-use Rattle.record.specs.Jobs.{longer, mostControls, dataWires, ancillas, wires, freeLayout, priceOf, durationOf, rows, jobCode}
-use Rattle.record.specs.Circuits.{marked, layoutOf, gates, circuitCode, circuitBytes}
+use Rattle.layouts.proofs.Layouts.{layout-is, layout-has, allowed-ok}
+use Rattle.record.specs.JobRules.{jobCode}
+use Rattle.fields.specs.Jobs.{longer, mostControls, dataWires, ancillas, wires, freeLayout, priceOf, durationOf, rows}
+use Rattle.record.specs.CircuitRules.{circuitCode}
+use Rattle.fields.specs.Circuits.{marked, layoutOf, gates, circuitBytes}
 use Rattle.record.proofs.Written as Written
 use Rattle.record.proofs.Kept.{sound-job, wires-within}
-use Rattle.verify.specs.Calls.{measuresOf, markFits, verifyOf}
+use Rattle.measures.specs.Measures.{measuresOf}
+use Rattle.verify.specs.Calls.{markFits, verifyOf}
 use Rattle.verify.specs.Demand.{PassesAt, Passes, Timed}
 use Rattle.verify.proofs.Codes.{circuit-parts}
 use Rattle.verify.proofs.Pass.{passes-circuit, pass}
 use Rattle.verify.proofs.Bounds.{lawful-here}
 use Rattle.verify.proofs.Ready.{verified-ready}
 use Rattle.parity.specs.Parity.{odd, tableParity}
-use Rattle.parity.specs.Ends.{threeControlGates}
+use Rattle.odd_tables.specs.Ends.{threeControlGates}
 use Rattle.problem.specs.Demand.{Solves}
 use Rattle.search.specs.Outcomes.{GateSet, ownSet, problemOver, recordOf, Found, searchOver, searchCode, searchOf}
 use Rattle.search.specs.Inner.{Lawfuls}

@@ -7,11 +7,11 @@ use Prim.Native.Nat.{ℕ, _<_}
 use lib.ListN.{getD, take}
 use Rattle.logic.specs.Answers.{Answer, refused, answered}
 use Rattle.gate.specs.Gates.{lawful}
-use Rattle.record.specs.Jobs.{mostControls, dataWires, wires, freeLayout, gateLimit, costLimit, depthLimit, rows}
-use Rattle.verify.specs.declared.Measures.{Measures}
+use Rattle.fields.specs.Jobs.{mostControls, dataWires, wires, freeLayout, gateLimit, costLimit, depthLimit, rows}
+use Rattle.measures.specs.declared.Measures.{Measures}
 use Rattle.columns.specs.Wanted.{wantedOf}
 use Rattle.choice.specs.Choices.{Choice}
-use Rattle.node.specs.declared.Task.{Task}
+use Rattle.states.specs.declared.Task.{Task}
 use Rattle.search.specs.Outcomes.{GateSet, recordOf, Found}
 
 unfoldable pub taskOf : List ℕ → Task

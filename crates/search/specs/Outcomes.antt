@@ -7,13 +7,13 @@ use lib.ListN.{length, drop}
 use Rattle.logic.specs.Rules.{pick}
 use Rattle.logic.specs.Answers.{Answer, refused, answered}
 use Rattle.gate.specs.Gates.{gatesFor}
-use Rattle.table.specs.Layouts.{layoutsFor}
+use Rattle.layouts.specs.Layouts.{layoutsFor}
 use Rattle.table.specs.Rows.{realizes}
-use Rattle.record.specs.Jobs.{longer, mostControls, dataWires, ancillas, wires, freeLayout, gateLimit, costLimit, depthLimit}
-use Rattle.record.specs.Jobs.{priceOf, durationOf, rows}
-use Rattle.record.specs.Circuits.{circuitBytes}
-use Rattle.verify.specs.declared.Measures.{Measures}
-use Rattle.verify.specs.Calls.{measuresOf}
+use Rattle.fields.specs.Jobs.{longer, mostControls, dataWires, ancillas, wires, freeLayout, gateLimit, costLimit, depthLimit}
+use Rattle.fields.specs.Jobs.{priceOf, durationOf, rows}
+use Rattle.fields.specs.Circuits.{circuitBytes}
+use Rattle.measures.specs.declared.Measures.{Measures}
+use Rattle.measures.specs.Measures.{measuresOf}
 use Rattle.choice.specs.Choices.{Choice}
 use Rattle.problem.specs.Problems.{Problem, firstGood}
 unfoldable pub use Rattle.codes.specs.Codes.{searchCode}

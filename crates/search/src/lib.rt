@@ -1,13 +1,14 @@
 // The public call of the search: a job's record to a problem, and the solver's answer to a record.
 use choice::Best;
 use circuit::Weights;
-use node::Task;
-use verify::Measures;
+use measures::Measures;
+use states::Task;
 ghost use mathlib.Core.Path.{_≡_};
 ghost use Prim.Native.Nat.{_≤_};
 ghost use lib.ListN.{length, take};
-ghost use Rattle.record.specs.Jobs.{priceOf, durationOf, jobCode};
-ghost use Rattle.verify.specs.Calls.{measuresOf};
+ghost use Rattle.record.specs.JobRules.{jobCode};
+ghost use Rattle.fields.specs.Jobs.{priceOf, durationOf};
+ghost use Rattle.measures.specs.Measures.{measuresOf};
 ghost use Rattle.choice.specs.Inner.{view};
 ghost use Rattle.problem.specs.Problems.{firstGood};
 ghost use Rattle.search.specs.Outcomes.{GateSet, ownSet, problemOver, problemOf, searchOf, reported, written, searchedAnswer, sizeIn};
@@ -33,13 +34,13 @@ pub fn task_of(job: &[u8]) -> Task
     ensures { λ r. ⌜ r ≡ taskOf (now (job .entry)) ⌝ }
 {
     Task {
-        wanted: columns::wanted_of(record::table(job)),
-        outputs: record::data_wires(job),
-        free: record::free_layout(job),
-        controls: record::most_controls(job),
-        gate_limit: record::gate_limit(job),
-        cost_limit: record::cost_limit(job),
-        depth_limit: record::depth_limit(job),
+        wanted: columns::wanted_of(fields::table(job)),
+        outputs: fields::data_wires(job),
+        free: fields::free_layout(job),
+        controls: fields::most_controls(job),
+        gate_limit: fields::gate_limit(job),
+        cost_limit: fields::cost_limit(job),
+        depth_limit: fields::depth_limit(job),
     }
 }
 
@@ -75,12 +76,12 @@ pub fn own_tables(job: &[u8]) -> Tables
     ensures { λ r. ⌜ Lawfuls (now (job .entry)) (take (r .count) (r .gates)) ⌝ }
     ensures { λ r. ⌜ Tabled (ownSet (now (job .entry))) (r .gates) (r .prices) (r .durations) (r .count) ⌝ }
 {
-    let most = record::most_controls(job);
-    let wires = record::wires(job);
+    let most = fields::most_controls(job);
+    let wires = fields::wires(job);
     let count = gate_tables::gate_count(most, wires);
     let gates = gate_tables::gate_table(most, wires);
-    let prices = asking::weigh(record::prices(job), &gates[..count]);
-    let durations = asking::weigh(record::durations(job), &gates[..count]);
+    let prices = asking::weigh(fields::prices(job), &gates[..count]);
+    let durations = asking::weigh(fields::durations(job), &gates[..count]);
     Tables {
         count,
         gates,
@@ -107,7 +108,7 @@ pub fn measures_of(job: &[u8], path: [u8; 12], len: usize) -> Measures
     requires { ⌜ len ≤ 12 ⌝ }
     ensures { λ r. ⌜ r ≡ measuresOf (priceOf (now (job .entry))) (durationOf (now (job .entry))) (take len path) ⌝ }
 {
-    verify::measure_list(&path[..len], record::prices(job), record::durations(job))
+    measures::measure_list(&path[..len], fields::prices(job), fields::durations(job))
 }
 
 // Writes the first good choice of a job to `answer`, and tells of it with its measures.
@@ -121,11 +122,11 @@ pub fn tell(job: &[u8], best: Best, measures: Measures, answer: &mut [u8]) -> Se
     if !best.found {
         return Searched::Refused(14);
     }
-    let n = record::data_wires(job);
-    let m = record::ancillas(job);
-    let mark = record::longer(job);
+    let n = fields::data_wires(job);
+    let m = fields::ancillas(job);
+    let mark = fields::longer(job);
     let path = best.path;
-    let size = record::write_record(n, m, mark, best.layout, path, best.len, answer);
+    let size = writing::write_record(n, m, mark, best.layout, path, best.len, answer);
     Searched::Found(size, measures)
 }
 

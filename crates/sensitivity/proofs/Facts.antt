@@ -17,18 +17,20 @@ use Rattle.logic.specs.Answers.{Answer, refused, answered}
 use Rattle.logic.proofs.Chain.{both-right, both-parts, both-true, either-second, rule-kept, and-then-zero}
 use Rattle.logic.proofs.Counts.{all-below, some-at}
 use Rattle.circuit.specs.Measure.{cost}
-use Rattle.record.specs.Jobs.{longer, dataWires, ancillas, costLimit, jobCode}
-use Rattle.record.specs.Circuits.{gates}
+use Rattle.record.specs.JobRules.{jobCode}
+use Rattle.fields.specs.Jobs.{longer, dataWires, ancillas, costLimit}
+use Rattle.fields.specs.Circuits.{gates}
 use Rattle.record.proofs.Kept.{sound-job}
 use Rattle.record.proofs.Written as Written
-use Rattle.verify.specs.declared.Measures.{Measures}
-use Rattle.verify.specs.Calls.{measuresOf}
+use Rattle.measures.specs.declared.Measures.{Measures}
+use Rattle.measures.specs.Measures.{measuresOf}
 use Rattle.problem.specs.Demand.{Winner}
 use Rattle.search.specs.Outcomes.{problemOver, problemOf, recordOf, Found, reported, searchOf}
 use Rattle.search.proofs.Facts as Search
-use Rattle.sensitivity.specs.Calls.{priceCount, pricePlace, sameBut, alikeBut, onePrice, comparable, compareCode, costDifference, changeBetween, priceChange}
+use Rattle.alike.specs.Alike.{priceCount, pricePlace, sameBut, alikeBut, onePrice, comparable, compareCode, costDifference}
+use Rattle.sensitivity.specs.Calls.{changeBetween, priceChange}
 use Rattle.sensitivity.specs.Demand.{ofKind, kindCount, Roomy, Bytes}
-use Rattle.sensitivity.proofs.Whole.{no-less, no-more, no-change}
+use Rattle.alike.proofs.Whole.{no-less, no-more, no-change}
 use Rattle.sensitivity.proofs.Problems.{turned, solves-too, winners-apart}
 use Rattle.sensitivity.proofs.Jobs.{Changed, changed-is, other-way, alike, raised, roomy}
 

@@ -19,14 +19,15 @@ use Rattle.gate.specs.declared.Kind.{Kind}
 use Rattle.gate.specs.declared.Kind.the-variants.{Not, Cnot, Toffoli, Cccnot}
 use Rattle.gate.specs.Gates.{gateOf, gatesFor}
 use Rattle.circuit.specs.Measure.{weightFor, weightOf}
-use Rattle.table.specs.Layouts.{layoutsFor}
+use Rattle.layouts.specs.Layouts.{layoutsFor}
 use Rattle.table.specs.Rows.{realizes}
-use Rattle.record.specs.Jobs.{longer, dataWires, ancillas, wires, freeLayout, gateLimit, costLimit, depthLimit, weightsAt, prices, durations, priceOf, rows, jobCode}
+use Rattle.record.specs.JobRules.{jobCode}
+use Rattle.fields.specs.Jobs.{longer, dataWires, ancillas, wires, freeLayout, gateLimit, costLimit, depthLimit, weightsAt, prices, durations, priceOf, rows}
 use Rattle.record.proofs.Kept.{sound-job}
 use Rattle.search.specs.Outcomes.{problemOver, problemOf}
-use Rattle.sensitivity.specs.Calls.{priceCount, pricePlace, sameBut, alikeBut, onePrice, comparable}
+use Rattle.alike.specs.Alike.{priceCount, pricePlace, sameBut, alikeBut, onePrice, comparable}
 use Rattle.sensitivity.specs.Demand.{kindNumber, ofKind, AlikeButPrices, Roomy, Raised, Bytes}
-use Rattle.sensitivity.proofs.Scan.{some-is}
+use Rattle.alike.proofs.Scan.{some-is}
 
 -- what tells two jobs apart is at most the price of the k-th kind
 pub record Changed (old new : List ℕ) (k : ℕ) : Type 0 where

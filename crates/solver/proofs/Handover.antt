@@ -10,11 +10,11 @@ use Rattle.choice.specs.Inner.{view}
 use Rattle.problem.specs.Problems.{Problem, firstGood}
 use Rattle.problem.specs.Inner.{Past}
 use Rattle.problem.proofs.Limits.{never}
-use Rattle.reach.specs.declared.Reach.{Reach}
+use Rattle.hashes.specs.declared.Reach.{Reach}
 use Rattle.filters.specs.Sieve.{Sieve}
-use Rattle.node.specs.declared.Task.{Task}
+use Rattle.states.specs.declared.Task.{Task}
 use Rattle.solver.specs.declared.Outcome.{Outcome}
-use Rattle.node.specs.States.{Slices, Supplied}
+use Rattle.states.specs.States.{Slices, Supplied}
 use Rattle.deepening.specs.Deepening.{Deepened}
 use Rattle.solver.specs.States.{Settled}
 

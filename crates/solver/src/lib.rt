@@ -1,9 +1,9 @@
 // The search for the first good choice of a problem: one walk after the other, by gates and by cost, with filters where they pay. It takes
 // slices of gates, prices and durations, and knows no job; its contracts speak of every problem that the arguments pose.
 use choice::Best;
-use node::Least;
-use node::Task;
-use reach::Reach;
+use hashes::Reach;
+use states::Least;
+use states::Task;
 ghost use mathlib.Core.Path.{_≡_};
 ghost use mathlib.Core.Bool.{true, false};
 ghost use mathlib.Core.List.{List};
@@ -16,8 +16,8 @@ ghost use Rattle.problem.specs.Problems.{Problem, firstGood};
 ghost use Rattle.problem.specs.Inner.{Past, Shortest};
 ghost use Rattle.budget.specs.Sums.{Marked};
 ghost use Rattle.filters.specs.Sieve.{Sieve};
-ghost use Rattle.node.specs.declared.Task.{Task};
-ghost use Rattle.node.specs.States.{Slices, Supplied, Fair, Ready, Posed, Limited, Bounded};
+ghost use Rattle.states.specs.declared.Task.{Task};
+ghost use Rattle.states.specs.States.{Slices, Supplied, Fair, Ready, Posed, Limited, Bounded};
 ghost use Rattle.deepening.specs.Deepening.{Counted, Deepened};
 ghost use Rattle.solver.specs.States.{Settled};
 

@@ -14,7 +14,7 @@ use Rattle.logic.specs.Lists.{along}
 use Rattle.logic.proofs.Below.{below}
 use Rattle.logic.proofs.Xor.{linear-zero, and-assoc, and-xor, xor-none}
 use Rattle.circuit.specs.Inner.{columnsAfter}
-use Rattle.table.specs.Layouts.{wireOf}
+use Rattle.layouts.specs.Layouts.{wireOf}
 use Rattle.columns.specs.declared.Wanted.{Wanted}
 use Rattle.columns.specs.Wanted.{misses, fits, met}
 use Rattle.columns.specs.Finish.{Finish}

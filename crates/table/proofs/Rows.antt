@@ -19,7 +19,7 @@ use Rattle.logic.proofs.Counts.{same-truth, all-below}
 use Rattle.gate.specs.Gates.{lawful}
 use Rattle.circuit.specs.Run.{forwards}
 use Rattle.circuit.proofs.Reversal.{stays}
-use Rattle.table.specs.Layouts.{wireOf}
+use Rattle.layouts.specs.Layouts.{wireOf}
 use Rattle.table.specs.Rows.{careOf, valueOf, bitAgrees, rowAgrees, agreesFrom, agrees, atZero, clean, realizes}
 
 module _ (p : ℕ) (ends : ℕ → ℕ) (table : List ℕ) (x : ℕ) where

@@ -7,7 +7,7 @@ use lib.Dec.{ltb, eqb}
 use Rattle.logic.specs.Rules.{both, implies, allBelow}
 use Rattle.logic.specs.Bit.{bitOf}
 use Rattle.circuit.specs.Run.{forwards}
-use Rattle.table.specs.Layouts.{wireOf}
+use Rattle.layouts.specs.Layouts.{wireOf}
 
 -- "one byte a row: wanted-bits mask in the high four bits, value in the low four"; the care mask is the wanted-bits mask
 abbrev pub careOf : ℕ → ℕ

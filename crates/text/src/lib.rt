@@ -1,95 +1,19 @@
 // The line that the program prints, as bytes written into a lent buffer.
-use verify::Measures;
+use measures::Measures;
 ghost use mathlib.Core.Path.{_≡_};
-ghost use mathlib.Core.List.{[], _∷_};
-ghost use Prim.Native.Nat.{_+_, _*_, _<_, _≤_};
+ghost use Prim.Native.Nat.{_+_, _≤_};
 ghost use lib.ListN.{length};
-ghost use Rattle.text.specs.Text.{place, decimal, hexDigit, hexOf, spaced, refusedLine, foundLine, inFront};
-ghost use Rattle.text.specs.Writing.{Wrote};
-
-// Writes one byte at an index, and answers the next index, as all below.
-pub fn put(out: &mut [u8], i: usize, byte: u8) -> usize
-    requires { ⌜ i < length (now out) ⌝ }
-    ensures { λ r. ⌜ Wrote (now (out .entry)) i (byte ∷ []) (now (out .exit)) r ⌝ }
-{
-    out[i] = byte;
-    i + 1
-}
-
-pub fn put_text(out: &mut [u8], i: usize, text: &[u8]) -> usize
-    requires { ⌜ i + length (now text) ≤ length (now out) ⌝ }
-    ensures { λ r. ⌜ Wrote (now (out .entry)) i (now (text .entry)) (now (out .exit)) r ⌝ }
-{
-    let mut k = 0;
-    while k < text.len() {
-        out[i + k] = text[k];
-        k += 1;
-    }
-    i + k
-}
-
-// Writes the digit of one place, if the number reaches it.
-pub fn put_place(out: &mut [u8], i: usize, n: usize, p: usize) -> usize
-    requires { ⌜ i < length (now out) ⌝ }
-    requires { ⌜ 0 < p ⌝ }
-    ensures { λ r. ⌜ Wrote (now (out .entry)) i (place n p) (now (out .exit)) r ⌝ }
-{
-    if p <= n {
-        put(out, i, 48 + (n / p % 10) as u8)
-    } else {
-        i
-    }
-}
-
-pub fn put_decimal(out: &mut [u8], i: usize, n: usize) -> usize
-    requires { ⌜ i + 5 ≤ length (now out) ⌝ }
-    ensures { λ r. ⌜ Wrote (now (out .entry)) i (decimal n) (now (out .exit)) r ⌝ }
-{
-    let a = put_place(out, i, n, 10000);
-    let b = put_place(out, a, n, 1000);
-    let c = put_place(out, b, n, 100);
-    let d = put_place(out, c, n, 10);
-    put(out, d, 48 + (n % 10) as u8)
-}
-
-pub fn put_spaced(out: &mut [u8], i: usize, n: usize) -> usize
-    requires { ⌜ i + 6 ≤ length (now out) ⌝ }
-    ensures { λ r. ⌜ Wrote (now (out .entry)) i (spaced n) (now (out .exit)) r ⌝ }
-{
-    let end = put_decimal(out, i, n);
-    put(out, end, b' ')
-}
-
-fn hex_digit(d: u8) -> u8
-    requires { ⌜ d < 16 ⌝ }
-    ensures { λ r. ⌜ r ≡ hexDigit d ⌝ }
-{
-    if d < 10 { 48 + d } else { 55 + d }
-}
-
-pub fn put_hex(out: &mut [u8], i: usize, bytes: &[u8]) -> usize
-    requires { ⌜ i + 2 * length (now bytes) ≤ length (now out) ⌝ }
-    ensures { λ r. ⌜ Wrote (now (out .entry)) i (hexOf (now (bytes .entry))) (now (out .exit)) r ⌝ }
-{
-    let mut k = 0;
-    while k < bytes.len() {
-        let high = hex_digit(bytes[k] / 16);
-        let low = hex_digit(bytes[k] % 16);
-        out[i + 2 * k] = high;
-        out[i + 2 * k + 1] = low;
-        k += 1;
-    }
-    i + 2 * k
-}
+ghost use Rattle.pieces.specs.Text.{refusedLine, foundLine, inFront};
+ghost use Rattle.pieces.specs.Writing.{Wrote};
 
 // Writes `refused` and the number.
 pub fn put_refused(out: &mut [u8], i: usize, code: u8) -> usize
     requires { ⌜ i + 14 ≤ length (now out) ⌝ }
     ensures { λ r. ⌜ Wrote (now (out .entry)) i (refusedLine code) (now (out .exit)) r ⌝ }
 {
-    let a = put_text(out, i, b"refused ");
-    let b = put_decimal(out, a, code as usize);
-    put(out, b, b'\n')
+    let a = pieces::put_text(out, i, b"refused ");
+    let b = pieces::put_decimal(out, a, code as usize);
+    pieces::put(out, b, b'\n')
 }
 
 // Writes `refused` and the number at the start of the buffer, and answers the line's length.
@@ -108,10 +32,10 @@ pub fn found_line(m: Measures, bytes: &[u8], out: &mut [u8]) -> usize
     ensures { λ r. ⌜ r ≡ length (foundLine m (now (bytes .entry))) ⌝ }
     ensures { λ r. ⌜ now (out .exit) ≡ inFront (foundLine m (now (bytes .entry))) (now (out .entry)) ⌝ }
 {
-    let a = put_text(out, 0, b"found ");
-    let b = put_spaced(out, a, m.gates as usize);
-    let c = put_spaced(out, b, m.cost as usize);
-    let d = put_spaced(out, c, m.depth as usize);
-    let e = put_hex(out, d, bytes);
-    put(out, e, b'\n')
+    let a = pieces::put_text(out, 0, b"found ");
+    let b = pieces::put_spaced(out, a, m.gates as usize);
+    let c = pieces::put_spaced(out, b, m.cost as usize);
+    let d = pieces::put_spaced(out, c, m.depth as usize);
+    let e = pieces::put_hex(out, d, bytes);
+    pieces::put(out, e, b'\n')
 }

@@ -3,19 +3,17 @@
 use approximate::Nearest;
 use batch::Batched;
 use libc::STDOUT_FILENO;
+use measures::Measures;
 use parity::TableParity;
 use peephole::Rewritten;
 use record::Checked;
 use search::Searched;
 use sensitivity::Change;
 use verify::Measured;
-use verify::Measures;
 use verify::Ran;
 use windows::Prices;
-ghost use mathlib.Core.Path.{_≡_};
-ghost use Prim.Native.Nat.{_+_, _≤_, _<_, min};
+ghost use Prim.Native.Nat.{_≤_};
 ghost use lib.ListN.{length};
-ghost use Rattle.io.specs.Counts.{Counts};
 
 fn main() {
     run_file(b"jobs");
@@ -36,68 +34,58 @@ fn main() {
     run_file(b"listings");
 }
 
-fn say(text: &[u8]) {
-    io::write_all(STDOUT_FILENO, text);
-}
-
 // Runs the lines of a file of fewer than 65,536 bytes.
 fn run_file(name: &[u8]) {
     let file = os::open_read(name);
     if file < 0 {
-        complain(b"missing ", name);
+        data_lines::complain(b"missing ", name);
         return;
     }
     let mut text = io::large_buffer();
     let n = io::read_full(file, &mut text);
     libc::close(file);
     if n == 65536 {
-        complain(b"too long ", name);
+        data_lines::complain(b"too long ", name);
     }
     run_lines(&text[..n]);
-}
-
-fn complain(what: &[u8], name: &[u8]) {
-    say(what);
-    say(name);
-    say(b"\n");
 }
 
 fn run_lines(text: &[u8]) {
     let mut at = 0;
     let mut number = 0;
     while at < text.len() {
-        let end = find(text, at, b'\n');
+        let end = data_lines::find(text, at, b'\n');
         number += 1;
         run_line(&text[at..end], number);
-        at = past(text, end);
+        at = data_lines::past(text, end);
     }
 }
 
 fn run_line(line: &[u8], number: usize) {
     if logic::at(line, 0) == b'#' {
-        say(line);
+        data_lines::say(line);
     } else {
         run_sound(line, number);
     }
-    say(b"\n");
+    data_lines::say(b"\n");
 }
 
 fn run_sound(line: &[u8], number: usize) {
     if is_call(line) {
         run_call(line);
     } else {
-        say(b"bad line ");
+        data_lines::say(b"bad line ");
         io::print_decimal(STDOUT_FILENO, number as u64);
     }
 }
 
 // Whether a line is a call: a name, and as many words of bytes as it takes.
 fn is_call(line: &[u8]) -> bool {
-    let a = find(line, 0, b' ');
-    let from = past(line, a);
-    let b = find(line, from, b' ');
-    let to = past(line, b);
-    let c = find(line, to, b' ');
+    let a = data_lines::find(line, 0, b' ');
+    let from = data_lines::past(line, a);
+    let b = data_lines::find(line, from, b' ');
+    let to = data_lines::past(line, b);
+    let c = data_lines::find(line, to, b' ');
     let letter = logic::at(line, 0);
     let words = logic::both(is_word(&line[from..b]), second_ok(letter, &line[to..c]));
     let rest = third_ok(letter, &line[c..]);
@@ -106,34 +94,39 @@ fn is_call(line: &[u8]) -> bool {
 
 fn is_name(letter: u8, name: &[u8]) -> bool {
     match letter {
-        b'j' => same(name, b"job"),
-        b'c' => same(name, b"circuit"),
-        b'e' => same(name, b"every"),
-        b'f' => same(name, b"forwards"),
-        b'b' => same(name, b"backwards"),
-        b'm' => same(name, b"measure"),
-        b'v' => same(name, b"verify"),
-        b'p' => same(name, b"parity"),
-        b's' => same(name, b"search"),
-        b'l' => same(name, b"line"),
-        b'a' => same(name, b"among"),
-        b'w' => same(name, b"with"),
-        b't' => same(name, b"together"),
-        b'd' => same(name, b"difference"),
-        b'g' => same(name, b"gap"),
-        b'n' => same(name, b"nearest"),
-        b'r' => same(name, b"rewrite"),
+        b'j' => data_lines::same(name, b"job"),
+        b'c' => data_lines::same(name, b"circuit"),
+        b'e' => data_lines::same(name, b"every"),
+        b'f' => data_lines::same(name, b"forwards"),
+        b'b' => data_lines::same(name, b"backwards"),
+        b'm' => data_lines::same(name, b"measure"),
+        b'v' => data_lines::same(name, b"verify"),
+        b'p' => data_lines::same(name, b"parity"),
+        b's' => data_lines::same(name, b"search"),
+        b'l' => data_lines::same(name, b"line"),
+        b'a' => data_lines::same(name, b"among"),
+        b'w' => data_lines::same(name, b"with"),
+        b't' => data_lines::same(name, b"together"),
+        b'd' => data_lines::same(name, b"difference"),
+        b'g' => data_lines::same(name, b"gap"),
+        b'n' => data_lines::same(name, b"nearest"),
+        b'r' => data_lines::same(name, b"rewrite"),
         _ => false,
     }
+}
+
+// Whether a word is bytes that fit the buffers below.
+fn is_word(word: &[u8]) -> bool {
+    data_lines::is_word(word, 8192)
 }
 
 // What stands after the first word: a byte for a run and two searches, a record, a library, gates or a length for eight calls, nothing for the others.
 fn second_ok(letter: u8, rest: &[u8]) -> bool {
     match letter {
-        b'f' => is_byte(rest),
-        b'b' => is_byte(rest),
-        b's' => is_byte(rest),
-        b'n' => is_byte(rest),
+        b'f' => data_lines::is_byte(rest),
+        b'b' => data_lines::is_byte(rest),
+        b's' => data_lines::is_byte(rest),
+        b'n' => data_lines::is_byte(rest),
         b'm' => is_word(rest),
         b'v' => is_word(rest),
         b'a' => is_word(rest),
@@ -150,72 +143,26 @@ fn second_ok(letter: u8, rest: &[u8]) -> bool {
 // with one, and a length for rewriting.
 fn third_ok(letter: u8, rest: &[u8]) -> bool {
     match letter {
-        b'a' => is_byte(&rest[past(rest, 0)..]),
-        b'w' => is_word(&rest[past(rest, 0)..]),
-        b't' => is_byte(&rest[past(rest, 0)..]),
-        b'r' => is_word(&rest[past(rest, 0)..]),
+        b'a' => data_lines::is_byte(&rest[data_lines::past(rest, 0)..]),
+        b'w' => is_word(&rest[data_lines::past(rest, 0)..]),
+        b't' => data_lines::is_byte(&rest[data_lines::past(rest, 0)..]),
+        b'r' => is_word(&rest[data_lines::past(rest, 0)..]),
         _ => rest.len() == 0,
     }
 }
 
-fn is_byte(word: &[u8]) -> bool {
-    logic::both(word.len() == 2, is_digits(word))
-}
-
-// Whether a word is `-`, or pairs of upper-case digits that fit the buffer.
-fn is_word(word: &[u8]) -> bool {
-    if same(word, b"-") {
-        return true;
-    }
-    let paired = logic::both(word.len() % 2 == 0, word.len() <= 8192);
-    logic::both(logic::both(word.len() != 0, paired), is_digits(word))
-}
-
-fn is_digits(word: &[u8]) -> bool {
-    let mut i = 0;
-    while i < word.len() {
-        if !is_digit(word[i]) {
-            return false;
-        }
-        i += 1;
-    }
-    true
-}
-
-fn is_digit(b: u8) -> bool {
-    match b {
-        b'0'..=b'9' => true,
-        b'A'..=b'F' => true,
-        _ => false,
-    }
-}
-
-fn same(a: &[u8], b: &[u8]) -> bool {
-    if a.len() != b.len() {
-        return false;
-    }
-    let mut i = 0;
-    while i < a.len() {
-        if a[i] != logic::at(b, i) {
-            return false;
-        }
-        i += 1;
-    }
-    true
-}
-
 // Runs a call: its name, and one to three words of bytes.
 fn run_call(line: &[u8]) {
-    let a = find(line, 0, b' ');
-    let from = past(line, a);
-    let b = find(line, from, b' ');
-    let to = past(line, b);
-    let c = find(line, to, b' ');
+    let a = data_lines::find(line, 0, b' ');
+    let from = data_lines::past(line, a);
+    let b = data_lines::find(line, from, b' ');
+    let to = data_lines::past(line, b);
+    let c = data_lines::find(line, to, b' ');
     let mut first = io::buffer();
     let mut second = io::buffer();
-    let n = decode(&line[from..b], &mut first);
-    let m = decode(&line[to..c], &mut second);
-    with_third(line, past(line, c), &first[..n], &second[..m]);
+    let n = data_lines::decode(&line[from..b], &mut first);
+    let m = data_lines::decode(&line[to..c], &mut second);
+    with_third(line, data_lines::past(line, c), &first[..n], &second[..m]);
 }
 
 // The third word, which begins at `at`.
@@ -223,7 +170,7 @@ fn with_third(line: &[u8], at: usize, first: &[u8], second: &[u8])
     requires { ⌜ at ≤ length (now line) ⌝ }
 {
     let mut third = io::buffer();
-    let k = decode(&line[at..], &mut third);
+    let k = data_lines::decode(&line[at..], &mut third);
     dispatch(logic::at(line, 0), first, second, &third[..k]);
 }
 
@@ -244,17 +191,17 @@ fn dispatch(letter: u8, first: &[u8], second: &[u8], third: &[u8]) {
         b'w' => say_measured(library::verify_with(first, second, third)),
         b't' => say_batch(first, second, logic::at(third, 0)),
         b'd' => say_change(sensitivity::price_change(first, second)),
-        b'g' => say_difference(sensitivity::cost_difference(cost_in(first), cost_in(second))),
+        b'g' => say_difference(alike::cost_difference(cost_in(first), cost_in(second))),
         b'n' => say_closest(first, logic::at(second, 0)),
         b'r' => say_rewrite(first, second, third),
-        _ => say(b"unknown"),
+        _ => data_lines::say(b"unknown"),
     }
 }
 
 fn say_checked(answer: Checked) {
     match answer {
         Checked::Refused(code) => say_refused(code),
-        Checked::Sound => say(b"sound"),
+        Checked::Sound => data_lines::say(b"sound"),
     }
 }
 
@@ -262,7 +209,7 @@ fn say_checked(answer: Checked) {
 fn say_every(circuit: &[u8]) {
     let mut record = [0u8; 16];
     let n = copy_in(circuit, &mut record);
-    say(b"codes");
+    data_lines::say(b"codes");
     let mut count: usize = 0;
     while count < 256 {
         say_with(record, n, (count % 256) as u8);
@@ -274,7 +221,7 @@ fn say_every(circuit: &[u8]) {
 fn say_with(record: [u8; 16], n: usize, count: u8) {
     let mut changed = record;
     changed[2] = count;
-    say(b" ");
+    data_lines::say(b" ");
     say_code(&changed, n);
 }
 
@@ -307,24 +254,8 @@ fn say_ran(answer: Ran) {
 }
 
 fn say_value(value: u8) {
-    say(b"value ");
-    say_byte(value);
-}
-
-fn say_byte(value: u8) {
-    say_hex(value / 16);
-    say_hex(value % 16);
-}
-
-fn say_hex(digit: u8) {
-    let d = digit as usize % 16;
-    say_one(b"0123456789ABCDEF", d);
-}
-
-fn say_one(text: &[u8], i: usize) {
-    if i < text.len() {
-        say(&text[i..i + 1]);
-    }
+    data_lines::say(b"value ");
+    data_lines::say_byte(value);
 }
 
 fn say_measured(answer: Measured) {
@@ -335,17 +266,17 @@ fn say_measured(answer: Measured) {
 }
 
 fn say_within(m: Measures) {
-    say(b"within ");
+    data_lines::say(b"within ");
     say_measures(m);
 }
 
 fn say_measures(m: Measures) {
     io::print_decimal(STDOUT_FILENO, m.gates as u64);
-    say(b" ");
+    data_lines::say(b" ");
     io::print_decimal(STDOUT_FILENO, m.cost as u64);
-    say(b" ");
+    data_lines::say(b" ");
     io::print_decimal(STDOUT_FILENO, m.depth as u64);
-    say(b" ready");
+    data_lines::say(b" ready");
     say_time(m.ready0);
     say_time(m.ready1);
     say_time(m.ready2);
@@ -354,7 +285,7 @@ fn say_measures(m: Measures) {
 }
 
 fn say_time(time: u16) {
-    say(b" ");
+    data_lines::say(b" ");
     io::print_decimal(STDOUT_FILENO, time as u64);
 }
 
@@ -366,11 +297,11 @@ fn say_change(answer: Change) {
 }
 
 fn say_difference(difference: i32) {
-    say(b"by ");
-    if sensitivity::is_negative(difference) {
-        say(b"-");
+    data_lines::say(b"by ");
+    if alike::is_negative(difference) {
+        data_lines::say(b"-");
     }
-    io::print_decimal(STDOUT_FILENO, sensitivity::distance(difference) as u64);
+    io::print_decimal(STDOUT_FILENO, alike::distance(difference) as u64);
 }
 
 // The cost in the first two bytes, high byte first.
@@ -381,9 +312,9 @@ fn cost_in(bytes: &[u8]) -> u16 {
 fn say_parity(answer: TableParity) {
     match answer {
         TableParity::Refused(code) => say_refused(code),
-        TableParity::Even => say(b"even"),
-        TableParity::Odd => say(b"odd"),
-        TableParity::Neither => say(b"neither"),
+        TableParity::Even => data_lines::say(b"even"),
+        TableParity::Odd => data_lines::say(b"odd"),
+        TableParity::Neither => data_lines::say(b"neither"),
     }
 }
 
@@ -402,8 +333,8 @@ fn search_into(job: &[u8], library: &[u8], among: bool, buffer: &mut [u8], n: us
 
 fn search_whole(job: &[u8], library: &[u8], among: bool, answer: &mut [u8]) {
     say_searched(search_one(job, library, among, answer));
-    say(b" ");
-    say_bytes(answer);
+    data_lines::say(b" ");
+    data_lines::say_bytes(answer);
 }
 
 // Among the gates of a library, or among the job's own.
@@ -432,9 +363,9 @@ fn say_searched(answer: Searched) {
 }
 
 fn say_found(size: usize, m: Measures) {
-    say(b"found ");
+    data_lines::say(b"found ");
     io::print_decimal(STDOUT_FILENO, size as u64);
-    say(b" ");
+    data_lines::say(b" ");
     say_measures(m);
 }
 
@@ -453,8 +384,8 @@ fn closest_into(job: &[u8], buffer: &mut [u8], n: usize) {
 
 fn closest_whole(job: &[u8], answer: &mut [u8]) {
     say_nearest(approximate::closest(job, answer));
-    say(b" ");
-    say_bytes(answer);
+    data_lines::say(b" ");
+    data_lines::say_bytes(answer);
 }
 
 fn say_nearest(answer: Nearest) {
@@ -466,7 +397,7 @@ fn say_nearest(answer: Nearest) {
 
 fn say_near(size: usize, m: Measures, misses: usize) {
     say_found(size, m);
-    say(b" misses ");
+    data_lines::say(b" misses ");
     io::print_decimal(STDOUT_FILENO, misses as u64);
 }
 
@@ -498,10 +429,10 @@ fn batch_within(jobs: &[u8], cells: &mut [u8], codes: &mut [u8], m: usize) {
 
 fn batch_whole(jobs: &[u8], cells: &mut [u8], codes: &mut [u8]) {
     say_batched(batch::search_all(jobs, cells, codes));
-    say(b" ");
-    say_bytes(cells);
-    say(b" ");
-    say_bytes(codes);
+    data_lines::say(b" ");
+    data_lines::say_bytes(cells);
+    data_lines::say(b" ");
+    data_lines::say_bytes(codes);
 }
 
 fn say_batched(answer: Batched) {
@@ -512,7 +443,7 @@ fn say_batched(answer: Batched) {
 }
 
 fn say_jobs(count: usize) {
-    say(b"jobs ");
+    data_lines::say(b"jobs ");
     io::print_decimal(STDOUT_FILENO, count as u64);
 }
 
@@ -537,8 +468,8 @@ fn rewrite_whole(setting: &[u8], gates: &[u8], list: &mut [u8]) {
         toffoli: logic::at(setting, 4),
     };
     say_rewritten(peephole::rewrite(logic::at(setting, 0), logic::at(setting, 1), prices, list));
-    say(b" ");
-    say_bytes(list);
+    data_lines::say(b" ");
+    data_lines::say_bytes(list);
 }
 
 // Byte i becomes gate i; after the last gate comes the first one again, and where there is none 0.
@@ -562,20 +493,8 @@ fn say_rewritten(answer: Rewritten) {
 }
 
 fn say_gates(count: usize) {
-    say(b"gates ");
+    data_lines::say(b"gates ");
     io::print_decimal(STDOUT_FILENO, count as u64);
-}
-
-// Each byte in hexadecimal; `-` where there is none.
-fn say_bytes(bytes: &[u8]) {
-    if bytes.len() == 0 {
-        say(b"-");
-    }
-    let mut i = 0;
-    while i < bytes.len() {
-        say_byte(bytes[i]);
-        i += 1;
-    }
 }
 
 // The line that `main` prints, without its line feed.
@@ -588,64 +507,12 @@ fn say_line(job: &[u8]) {
 fn say_front(text: &[u8], size: usize) {
     if 0 < size {
         if size <= text.len() {
-            say(&text[..size - 1]);
+            data_lines::say(&text[..size - 1]);
         }
     }
 }
 
 fn say_refused(code: u8) {
-    say(b"refused ");
+    data_lines::say(b"refused ");
     io::print_decimal(STDOUT_FILENO, code as u64);
-}
-
-// Where `b` first stands at `from` or later, or the end.
-fn find(s: &[u8], from: usize, b: u8) -> usize
-    requires { ⌜ from ≤ length (now s) ⌝ }
-    ensures { λ r. ⌜ (from ≤ r) × (r ≤ length (now (s .entry))) ⌝ }
-{
-    let mut i = from;
-    while i < s.len() {
-        if s[i] == b {
-            return i;
-        }
-        i += 1;
-    }
-    i
-}
-
-// The place after `i`, or the end.
-fn past(s: &[u8], i: usize) -> usize
-    ensures { λ r. ⌜ r ≡ min (i + 1) (length (now (s .entry))) ⌝ }
-{
-    if i < s.len() { i + 1 } else { s.len() }
-}
-
-// Puts the bytes that pairs of digits write at the start of `out`, as many as fit, and answers how many: for `-` none.
-fn decode(digits: &[u8], out: &mut [u8]) -> usize
-    ensures { λ r. ⌜ Counts r (now (out .exit)) ⌝ }
-{
-    let n = least(digits.len() / 2, out.len());
-    let mut i = 0;
-    while i < n {
-        out[i] = 16 * digit(digits[2 * i]) + digit(digits[2 * i + 1]);
-        i += 1;
-    }
-    n
-}
-
-fn least(a: usize, b: usize) -> usize
-    ensures { λ r. ⌜ r ≡ min a b ⌝ }
-{
-    if a < b { a } else { b }
-}
-
-// What an upper-case hexadecimal digit stands for.
-fn digit(b: u8) -> u8
-    ensures { λ r. ⌜ r < 16 ⌝ }
-{
-    match b {
-        b'0'..=b'9' => b - b'0',
-        b'A'..=b'F' => b - b'A' + 10,
-        _ => 0,
-    }
 }

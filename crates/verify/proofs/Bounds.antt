@@ -18,11 +18,14 @@ use Rattle.gate.proofs.Tables.{all-widen}
 use Rattle.circuit.specs.Measure.{depth}
 use Rattle.circuit.proofs.Prefix.{depth-most}
 use Rattle.circuit.proofs.Gatebound.{roundedUp, gates-by-depth, depth-least}
-use Rattle.record.specs.Jobs.{longer, mostControls, dataWires, ancillas, wires, durationOf, jobCode}
-use Rattle.record.specs.Circuits.{marked, controlsOf, gates, circuitCode}
+use Rattle.record.specs.JobRules.{jobCode}
+use Rattle.fields.specs.Jobs.{longer, mostControls, dataWires, ancillas, wires, durationOf}
+use Rattle.record.specs.CircuitRules.{circuitCode}
+use Rattle.fields.specs.Circuits.{marked, controlsOf, gates}
 use Rattle.record.proofs.Kept.{sound-job, sound-circuit, wires-within}
-use Rattle.verify.specs.declared.Measures.{Measures}
-use Rattle.verify.specs.Calls.{measuresOf, measuresFor, sameWires, markFits, measureCode, measureOf}
+use Rattle.measures.specs.declared.Measures.{Measures}
+use Rattle.measures.specs.Measures.{measuresOf}
+use Rattle.verify.specs.Calls.{measuresFor, sameWires, markFits, measureCode, measureOf}
 use Rattle.verify.proofs.Codes.{measure-parts}
 
 module _ (job c : List ℕ) where

@@ -11,8 +11,10 @@ use Rattle.logic.specs.Rules.{pick, rule}
 use Rattle.logic.proofs.Chain.{and-then-zero, rule-kept}
 use Rattle.circuit.specs.Run.{forwards, backwards}
 use Rattle.circuit.proofs.Reversal.{stays, stays-back}
-use Rattle.record.specs.Jobs.{wires, jobCode}
-use Rattle.record.specs.Circuits.{controlsOf, gates, circuitCode}
+use Rattle.record.specs.JobRules.{jobCode}
+use Rattle.fields.specs.Jobs.{wires}
+use Rattle.record.specs.CircuitRules.{circuitCode}
+use Rattle.fields.specs.Circuits.{controlsOf, gates}
 use Rattle.record.proofs.Kept.{sound-circuit, circuit-wires-within}
 use Rattle.verify.specs.Calls.{runCode, sameWires, markFits, circuitCodeFor, measureCode}
 

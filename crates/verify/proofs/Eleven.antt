@@ -10,12 +10,14 @@ use Rattle.logic.specs.Answers.{refused}
 use Rattle.logic.proofs.Answers.{refused-is}
 use Rattle.logic.proofs.Chain.{rule-never, and-then-never}
 use Rattle.circuit.specs.Run.{forwards, backwards}
-use Rattle.table.specs.Layouts.{allowed}
+use Rattle.layouts.specs.Layouts.{allowed}
 use Rattle.table.specs.Rows.{agrees, clean}
-use Rattle.record.specs.Jobs.{dataWires, wires, freeLayout, gateLimit, costLimit, depthLimit, rows, jobCode}
-use Rattle.record.specs.Circuits.{layoutOf, gates, circuitCode}
+use Rattle.record.specs.JobRules.{jobCode}
+use Rattle.fields.specs.Jobs.{dataWires, wires, freeLayout, gateLimit, costLimit, depthLimit, rows}
+use Rattle.record.specs.CircuitRules.{circuitCode}
+use Rattle.fields.specs.Circuits.{layoutOf, gates}
 use Rattle.record.proofs.Eleven.{circuit-never, job-never}
-use Rattle.verify.specs.declared.Measures.{Measures}
+use Rattle.measures.specs.declared.Measures.{Measures}
 use Rattle.verify.specs.Calls.{runCode, runOf, measuresFor, sameWires, markFits, circuitCodeFor, measureCode, measureOf}
 use Rattle.verify.specs.Calls.{limitsCode, verifyRest, verifyCode, verifyOf}
 

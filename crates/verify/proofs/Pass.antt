@@ -12,13 +12,15 @@ use Rattle.logic.proofs.Answers.{answered-with, answered-is}
 use Rattle.logic.proofs.Chain.{both-left, both-right, rule-kept, and-then-zero}
 use Rattle.circuit.specs.Run.{forwards}
 use Rattle.circuit.specs.Measure.{cost, depth}
-use Rattle.table.specs.Layouts.{allowed}
+use Rattle.layouts.specs.Layouts.{allowed}
 use Rattle.table.specs.Rows.{agrees, clean}
 use Rattle.table.proofs.Rows.{realizes-agrees, realizes-clean, agrees-realizes}
-use Rattle.record.specs.Jobs.{dataWires, ancillas, freeLayout, gateLimit, costLimit, depthLimit, priceOf, durationOf, rows, jobCode}
-use Rattle.record.specs.Circuits.{layoutOf, gates}
-use Rattle.verify.specs.declared.Measures.{Measures}
-use Rattle.verify.specs.Calls.{measuresOf, measuresFor, sameWires, circuitCodeFor, measureCode, limitsCode, verifyRest, verifyCode, verifyOf}
+use Rattle.record.specs.JobRules.{jobCode}
+use Rattle.fields.specs.Jobs.{dataWires, ancillas, freeLayout, gateLimit, costLimit, depthLimit, priceOf, durationOf, rows}
+use Rattle.fields.specs.Circuits.{layoutOf, gates}
+use Rattle.measures.specs.declared.Measures.{Measures}
+use Rattle.measures.specs.Measures.{measuresOf}
+use Rattle.verify.specs.Calls.{measuresFor, sameWires, circuitCodeFor, measureCode, limitsCode, verifyRest, verifyCode, verifyOf}
 use Rattle.verify.specs.Demand.{PassesAt, Passes}
 use Rattle.verify.proofs.Codes.{circuit-parts}
 

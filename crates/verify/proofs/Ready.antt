@@ -11,11 +11,13 @@ use Rattle.gate.specs.Gates.{gateOf}
 use Rattle.circuit.specs.Measure.{holdByte, idle, readyTimes, greatest}
 use Rattle.circuit.proofs.Times.{length-hold}
 use Rattle.circuit.proofs.Gatebound.{quiet-ready}
-use Rattle.record.specs.Jobs.{wires, priceOf, durationOf}
-use Rattle.record.specs.Circuits.{controlsOf, gates, circuitCode}
+use Rattle.fields.specs.Jobs.{wires, priceOf, durationOf}
+use Rattle.record.specs.CircuitRules.{circuitCode}
+use Rattle.fields.specs.Circuits.{controlsOf, gates}
 use Rattle.record.proofs.Kept.{sound-circuit, circuit-wires-within}
-use Rattle.verify.specs.declared.Measures.{Measures}
-use Rattle.verify.specs.Calls.{measuresOf, measuresFor, readyOf, measureCode, measureOf, verifyCode, verifyOf}
+use Rattle.measures.specs.declared.Measures.{Measures}
+use Rattle.measures.specs.Measures.{measuresOf, readyOf}
+use Rattle.verify.specs.Calls.{measuresFor, measureCode, measureOf, verifyCode, verifyOf}
 use Rattle.verify.specs.Demand.{Timed}
 use Rattle.verify.proofs.Codes.{measure-parts}
 use Rattle.verify.proofs.Pass.{code-passes}

@@ -1,19 +1,18 @@
 -- What running, measuring and verifying (document 01: judging) answer.
 use mathlib.Core.Bool.{Bool, true, false}
-use mathlib.Core.List.{List, [], _∷_}
+use mathlib.Core.List.{List}
 use Prim.Native.Nat.{ℕ}
 use lib.Dec.{leb}
-use lib.ListN.{length, getD}
 use Rattle.logic.specs.Rules.{pick, rule, andThen}
 use Rattle.logic.specs.Answers.{Answer, refused, answered, answerOf}
 use Rattle.circuit.specs.Run.{forwards, backwards}
-use Rattle.circuit.specs.Measure.{cost, readyTimes, greatest}
-use Rattle.table.specs.Layouts.{allowed}
+use Rattle.layouts.specs.Layouts.{allowed}
 use Rattle.table.specs.Rows.{agrees, clean}
-use Rattle.record.specs.Jobs.{dataWires, freeLayout, gateLimit, costLimit, depthLimit, priceOf, durationOf, rows}
-use Rattle.record.specs.Circuits.{layoutOf, gates}
+use Rattle.fields.specs.Jobs.{dataWires, freeLayout, gateLimit, costLimit, depthLimit, priceOf, durationOf, rows}
+use Rattle.fields.specs.Circuits.{layoutOf, gates}
 unfoldable pub use Rattle.codes.specs.Codes.{runCode, sameWires, markFits, circuitCodeFor, measureCode}
-use Rattle.verify.specs.declared.Measures.{Measures}
+use Rattle.measures.specs.declared.Measures.{Measures}
+use Rattle.measures.specs.Measures.{measuresOf}
 use Rattle.verify.specs.declared.Ran.{Ran}
 use Rattle.verify.specs.declared.Ran.the-variants.{Value}
 use Rattle.verify.specs.declared.Measured.{Measured}
@@ -37,27 +36,6 @@ forwardsOf c v = runOf true c v
 
 abbrev pub backwardsOf : List ℕ → ℕ → Answer ℕ
 backwardsOf c v = runOf false c v
-
--- gates, cost, and "the free time of each of five wires"; "depth is their greatest"
-abbrev pub measuresWith : ℕ → ℕ → List ℕ → Measures
-measuresWith gs c ts = record {
-  gates = gs;
-  cost = c;
-  depth = greatest ts;
-  ready0 = getD ts 0 0;
-  ready1 = getD ts 1 0;
-  ready2 = getD ts 2 0;
-  ready3 = getD ts 3 0;
-  ready4 = getD ts 4 0;
-}
-
--- those of a list
-unfoldable pub measuresOf : (ℕ → ℕ) → (ℕ → ℕ) → List ℕ → Measures
-measuresOf price duration gs = measuresWith (length gs) (cost price gs) (readyTimes duration gs)
-
--- the ready times of five wires, as a list
-abbrev pub readyOf : Measures → List ℕ
-readyOf m = m .ready0 ∷ m .ready1 ∷ m .ready2 ∷ m .ready3 ∷ m .ready4 ∷ []
 
 -- those of a circuit, at a job's prices and durations
 abbrev pub measuresFor : List ℕ → List ℕ → Measures

@@ -6,12 +6,15 @@ use mathlib.Core.List.{List}
 use Prim.Native.Nat.{ℕ, _≤_}
 use lib.ListN.{length, getD}
 use Rattle.circuit.specs.Measure.{cost, depth, greatest}
-use Rattle.table.specs.Layouts.{allowed}
+use Rattle.layouts.specs.Layouts.{allowed}
 use Rattle.table.specs.Rows.{realizes}
-use Rattle.record.specs.Jobs.{dataWires, ancillas, freeLayout, gateLimit, costLimit, depthLimit, priceOf, durationOf, rows, jobCode}
-use Rattle.record.specs.Circuits.{layoutOf, gates, circuitCode}
-use Rattle.verify.specs.declared.Measures.{Measures}
-use Rattle.verify.specs.Calls.{readyOf, markFits}
+use Rattle.record.specs.JobRules.{jobCode}
+use Rattle.fields.specs.Jobs.{dataWires, ancillas, freeLayout, gateLimit, costLimit, depthLimit, priceOf, durationOf, rows}
+use Rattle.record.specs.CircuitRules.{circuitCode}
+use Rattle.fields.specs.Circuits.{layoutOf, gates}
+use Rattle.measures.specs.declared.Measures.{Measures}
+use Rattle.measures.specs.Measures.{readyOf}
+use Rattle.verify.specs.Calls.{markFits}
 
 -- at some prices and durations
 pub record PassesAt (price duration : ℕ → ℕ) (job c : List ℕ) : Type 0 where

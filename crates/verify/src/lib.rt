@@ -1,28 +1,13 @@
 // The public calls on circuits: running both ways, measuring, and verifying (document 01: judging).
-use circuit::Weights;
+use measures::Measures;
 ghost use mathlib.Core.Path.{_≡_};
-ghost use Prim.Native.Nat.{_≤_};
-ghost use lib.ListN.{length};
 ghost use Rattle.logic.specs.Rules.{pick};
 ghost use Rattle.circuit.specs.Run.{forwards, backwards};
-ghost use Rattle.circuit.specs.Measure.{weightOf};
-ghost use Rattle.record.specs.Jobs.{jobCode};
-ghost use Rattle.record.specs.Circuits.{circuitCode};
+ghost use Rattle.record.specs.JobRules.{jobCode};
+ghost use Rattle.record.specs.CircuitRules.{circuitCode};
 ghost use Rattle.verify.specs.Calls.{ranAnswer, runOf, forwardsOf, backwardsOf};
-ghost use Rattle.verify.specs.Calls.{measuredAnswer, measuresWith, measuresOf, measuresFor, measureOf};
+ghost use Rattle.verify.specs.Calls.{measuredAnswer, measuresFor, measureOf};
 ghost use Rattle.verify.specs.Calls.{limitRules, limitsCode, verifyRest, verifyOf};
-
-// Gates, cost and depth, and the ready time of each of five wires: 0 for a wire that the circuit lacks.
-pub struct Measures {
-    pub gates: u8,
-    pub cost: u16,
-    pub depth: u16,
-    pub ready0: u16,
-    pub ready1: u16,
-    pub ready2: u16,
-    pub ready3: u16,
-    pub ready4: u16,
-}
 
 // What running answers: the number of the first rule broken, or the value of the wires at the end.
 pub enum Ran {
@@ -54,7 +39,7 @@ fn run(forth: bool, c: &[u8], value: u8) -> Ran
     if code != 0 {
         return Ran::Refused(code);
     }
-    Ran::Value(run_list(forth, record::gate_list(c), logic::wide(value)) as u8)
+    Ran::Value(run_list(forth, fields::gate_list(c), logic::wide(value)) as u8)
 }
 
 // Runs a circuit from its first gate to its last.
@@ -71,42 +56,15 @@ pub fn run_backwards(c: &[u8], value: u8) -> Ran
     run(false, c, value)
 }
 
-// The measures of so many gates, of this cost, with these ready times.
-pub fn measures_with(gates: u8, cost: u16, times: [u16; 5]) -> Measures
-    ensures { λ r. ⌜ r ≡ measuresWith gates cost times ⌝ }
-{
-    Measures {
-        gates: gates,
-        cost: cost,
-        depth: circuit::latest(times),
-        ready0: times[0],
-        ready1: times[1],
-        ready2: times[2],
-        ready3: times[3],
-        ready4: times[4],
-    }
-}
-
-// The measures of a gate list.
-pub fn measure_list(list: &[u8], prices: Weights, durations: Weights) -> Measures
-    requires { ⌜ length (now list) ≤ 255 ⌝ }
-    ensures { λ r. ⌜ r ≡ measuresOf (weightOf prices) (weightOf durations) (now (list .entry)) ⌝ }
-{
-    let count = list.len() as u8;
-    let cost = circuit::cost(list, prices);
-    let times = circuit::ready_times(list, durations);
-    measures_with(count, cost, times)
-}
-
 // The measures of a sound circuit at a job's prices and durations.
 fn measures_for(job: &[u8], c: &[u8]) -> Measures
     requires { ⌜ circuitCode (now c) ≡ 0 ⌝ }
     ensures { λ r. ⌜ r ≡ measuresFor (now (job .entry)) (now (c .entry)) ⌝ }
 {
-    measure_list(
-        record::gate_list(c),
-        record::prices(job),
-        record::durations(job),
+    measures::measure_list(
+        fields::gate_list(c),
+        fields::prices(job),
+        fields::durations(job),
     )
 }
 
@@ -134,9 +92,9 @@ fn limits_code(job: &[u8], m: Measures) -> u8
 {
     limit_rules(
         m,
-        record::gate_limit(job),
-        record::cost_limit(job),
-        record::depth_limit(job),
+        fields::gate_limit(job),
+        fields::cost_limit(job),
+        fields::depth_limit(job),
     )
 }
 
@@ -145,10 +103,10 @@ pub fn verify_rest(job: &[u8], c: &[u8], m: Measures) -> u8
     requires { ⌜ jobCode (now job) ≡ 0 ⌝ }
     ensures { λ r. ⌜ r ≡ verifyRest (now (job .entry)) (now (c .entry)) m ⌝ }
 {
-    let p = record::layout_of(c);
-    let agreed = table::agrees(p, record::gate_list(c), record::table(job));
-    let allowed = table::allowed(record::data_wires(job), record::free_layout(job), p);
-    let clean = table::clean(record::data_wires(job), record::gate_list(c));
+    let p = fields::layout_of(c);
+    let agreed = table::agrees(p, fields::gate_list(c), fields::table(job));
+    let allowed = layouts::allowed(fields::data_wires(job), fields::free_layout(job), p);
+    let clean = table::clean(fields::data_wires(job), fields::gate_list(c));
     let limits = limits_code(job, m);
     let met = logic::rule(agreed, 16, logic::rule(clean, 24, limits));
     logic::rule(allowed, 15, met)

@@ -1,10 +1,10 @@
 // The walk through all gate lists below a node, depth first, cutting only what cannot change the answer.
 use choice::Best;
-use node::Entry;
-use node::Least;
-use node::Node;
-use node::Task;
-use reach::Reach;
+use hashes::Reach;
+use states::Entry;
+use states::Least;
+use states::Node;
+use states::Task;
 ghost use mathlib.Core.Path.{_≡_};
 ghost use mathlib.Core.List.{[]};
 ghost use mathlib.Core.Option.{none};
@@ -15,8 +15,8 @@ ghost use Rattle.problem.specs.Problems.{Problem};
 ghost use Rattle.problem.specs.Inner.{lookedUnder};
 ghost use Rattle.pruned.specs.Pruned.{triedUnder};
 ghost use Rattle.outputs.specs.Owed.{lost};
-ghost use Rattle.node.specs.declared.Task.{Task};
-ghost use Rattle.node.specs.States.{listOf, Supplied, Small, Fair, Ready, Needs, Posed, Bounded, At, Exact, needless};
+ghost use Rattle.states.specs.declared.Task.{Task};
+ghost use Rattle.states.specs.States.{listOf, Supplied, Small, Fair, Ready, Needs, Posed, Bounded, At, Exact, needless};
 
 // What is held once every list that begins with the node's and goes on by at most `remaining` gates, none of them needless, was looked at.
 fn dfs(
@@ -39,17 +39,17 @@ fn dfs(
     ensures { λ r. ⌜ ((P : Problem) → Posed P task (now (gates .entry)) (now (prices .entry)) (now (durations .entry)) → Bounded P least → At P s → Exact P (task .«cost_limit») (listOf s) remaining (now (sums .entry)) → view r ≡ triedUnder needless P (task .«cost_limit») (listOf s) remaining (view best)) ⌝ }
     ensures { λ r. ⌜ r .len ≤ 12 ⌝ }
 {
-    if node::impossible(sums, task.cost_limit, s.cost, remaining) {
+    if offers::impossible(sums, task.cost_limit, s.cost, remaining) {
         return best;
     }
-    let most = node::affordable(task, least, s, remaining, best);
+    let most = offers::affordable(task, least, s, remaining, best);
     let wanted = task.wanted;
     let columns = s.columns;
     let plan = plan::plan_of(wanted, columns, task.outputs, task.free);
     if logic::either(most < plan.lost, most < s.needs) {
         return best;
     }
-    let mut b = node::consider_met(task, s, plan.lost, best);
+    let mut b = offers::consider_met(task, s, plan.lost, best);
     if most == 0 {
         return b;
     }
@@ -65,7 +65,7 @@ fn dfs(
                 duration: durations[i],
             };
             if node::promising(&table, task, s, entry, most, b, bits, reach) {
-                let node = node::advance(&table, task, least, s, entry);
+                let node = advancing::advance(&table, task, least, s, entry);
                 let found = dfs(
                     gates,
                     prices,

@@ -21,13 +21,14 @@ use Rattle.circuit.specs.declared.Weights.{Weights}
 use Rattle.circuit.specs.Measure.{weightFor, weightOf, cost, depth}
 use Rattle.circuit.specs.Run.{forwards}
 use Rattle.circuit.proofs.Prefix.{depth-most}
-use Rattle.table.specs.Layouts.{Width, plain, layoutsFor}
+use Rattle.layouts.specs.Layouts.{Width, plain, layoutsFor}
 use Rattle.table.specs.Rows.{realizes}
-use Rattle.record.specs.Jobs.{mostControls, dataWires, wires, freeLayout, gateLimit, costLimit, depthLimit, priceOf, durationOf, rows, jobCode}
-use Rattle.record.specs.Circuits.{gates, circuitBytes}
+use Rattle.record.specs.JobRules.{jobCode}
+use Rattle.fields.specs.Jobs.{mostControls, dataWires, wires, freeLayout, gateLimit, costLimit, depthLimit, priceOf, durationOf, rows}
+use Rattle.fields.specs.Circuits.{gates, circuitBytes}
 use Rattle.record.proofs.Kept.{wires-within}
-use Rattle.verify.specs.declared.Measures.{Measures}
-use Rattle.verify.specs.Calls.{measuresOf}
+use Rattle.measures.specs.declared.Measures.{Measures}
+use Rattle.measures.specs.Measures.{measuresOf}
 use Rattle.problem.specs.Demand.{Admitted, Solves, Winner}
 use Rattle.search.specs.Outcomes.{problemOver, problemOf, recordOf, Found, searchOf}
 use Rattle.search.proofs.Facts.{found-sound, found-is, none-is, answers}

@@ -17,12 +17,12 @@ use Rattle.circuit.specs.declared.Weights.{Weights}
 use Rattle.circuit.specs.Run.{forwards}
 use Rattle.circuit.proofs.Reversal.{stays}
 use Rattle.reversal.proofs.Runs.{runs-back, lawful-reverse}
-use Rattle.table.specs.Layouts.{Width}
+use Rattle.layouts.specs.Layouts.{Width}
 use Rattle.table.specs.Rows.{careOf, valueOf, rowOk}
-use Rattle.record.specs.Jobs.{longer, dataWires, ancillas, freeLayout, gateLimit, costLimit, depthLimit, prices, durations, rows}
-use Rattle.record.specs.Jobs.{jobLengthOk, sizeOk, headOk, limitOk, durationsOk, rowsOk, jobCode}
+use Rattle.fields.specs.Jobs.{longer, dataWires, ancillas, freeLayout, gateLimit, costLimit, depthLimit, prices, durations, rows}
+use Rattle.record.specs.JobRules.{jobLengthOk, sizeOk, headOk, limitOk, durationsOk, rowsOk, jobCode}
 use Rattle.parity.specs.Parity.{values, fullRow, full, distinct, permutes}
-use Rattle.parity.proofs.Permutation.{permutation}
+use Rattle.odd_tables.proofs.Permutation.{permutation}
 use Rattle.inverse.specs.Inverse.{Permutation, valueAt}
 use Rattle.inverse.proofs.Tables.{fullOf}
 use Rattle.inverse.proofs.Made.{made-at, made-length, all-placed, fine-at, sized}

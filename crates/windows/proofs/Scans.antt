@@ -11,9 +11,9 @@ use lib.ListN.{length, take, drop, length-take}
 use lib.Seq.{take-nil}
 use Rattle.logic.specs.Rules.{pick}
 use Rattle.logic.specs.Answers.{refused, answered}
-use Rattle.table.specs.Layouts.{Width}
-use Rattle.record.specs.Circuits.{gates, circuitBytes}
-use Rattle.verify.specs.declared.Measures.{Measures}
+use Rattle.layouts.specs.Layouts.{Width}
+use Rattle.fields.specs.Circuits.{gates, circuitBytes}
+use Rattle.measures.specs.declared.Measures.{Measures}
 use Rattle.search.specs.Outcomes.{recordOf, Found, searchOf}
 use Rattle.search.proofs.Facts.{found-sound, found-is}
 use Rattle.windows.specs.declared.Prices.{Prices}

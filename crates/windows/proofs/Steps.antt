@@ -15,7 +15,7 @@ use Rattle.gate.specs.Gates.{lawful, step}
 use Rattle.circuit.specs.Measure.{weightOf}
 use Rattle.circuit.specs.Run.{forwards}
 use Rattle.circuit.proofs.Reversal.{stays}
-use Rattle.table.specs.Layouts.{Width}
+use Rattle.layouts.specs.Layouts.{Width}
 use Rattle.windows.specs.declared.Prices.{Prices}
 use Rattle.windows.specs.Windows.{weights, costAt, better, windowAt, replaced, rewritten}
 use Rattle.windows.specs.Inner.{spliced}

@@ -10,7 +10,7 @@ use Rattle.logic.specs.Answers.{Answer, refused, answered}
 use Rattle.circuit.specs.declared.Weights.{Weights}
 use Rattle.circuit.specs.Measure.{weightOf, cost}
 use Rattle.circuit.specs.Run.{forwards}
-use Rattle.record.specs.Circuits.{gates}
+use Rattle.fields.specs.Circuits.{gates}
 use Rattle.search.specs.Outcomes.{Found, searchOf}
 use Rattle.windows.specs.declared.Prices.{Prices}
 

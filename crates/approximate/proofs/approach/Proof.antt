@@ -7,7 +7,7 @@ use Prim.Native.Nat.{ℕ, _+_, _-_, _≤_, _<_}
 use native.Mathlib.Decide.{ℕ-discrete}
 use native.Mathlib.Omega.{arith}
 use borrow.Author.Needs.{needs}
-use Rattle.record.specs.Jobs.{dataWires, rows}
+use Rattle.fields.specs.Jobs.{dataWires, rows}
 use Rattle.choice.specs.declared.Best.{Best}
 use Rattle.choice.specs.Inner.{choice, view}
 use Rattle.choice.proofs.Held.{held-some, held-none}

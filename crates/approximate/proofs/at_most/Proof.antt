@@ -5,7 +5,7 @@ use borrow.Author.Needs.{needs}
 use lib.ListN.{length}
 use lib.Seq.{length-take-le}
 use Rattle.problem.specs.Problems.{firstGood}
-use Rattle.node.specs.declared.Task.{Task}
+use Rattle.states.specs.declared.Task.{Task}
 use Rattle.nearing.specs.Loose.{loosened}
 use Rattle.search.specs.Outcomes.{problemOf}
 use Rattle.search.proofs.Posed.{Handed, in-range, limited, sliced, posed}

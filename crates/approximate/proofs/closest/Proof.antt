@@ -5,7 +5,7 @@ use native.Mathlib.Omega.{arith}
 use borrow.Author.Needs.{needs}
 use lib.ListN.{length}
 use Rattle.logic.specs.Answers.{Answer, refused}
-use Rattle.record.specs.Jobs.{jobCode}
+use Rattle.record.specs.JobRules.{jobCode}
 use Rattle.search.specs.Outcomes.{Found, searchCode, written}
 use Rattle.search.proofs.Facts.{code-parts}
 use Rattle.approximate.specs.Calls.{Close, circuitIn, withMisses, told}

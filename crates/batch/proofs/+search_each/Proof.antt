@@ -7,13 +7,13 @@ use borrow.Author.Needs.{needs}
 use borrow.Fn.Kinds.{In}
 use borrow.Fn.PlainCycle.{Measures, is, falls, and}
 use lib.ListN.{length, take, drop}
-use Rattle.batch.specs.Records.{records}
-use Rattle.batch.proofs.Cutting.{none-asked, none-here, long-rest}
+use Rattle.cutting.specs.Records.{records}
+use Rattle.cutting.proofs.Cutting.{none-asked, none-here, long-rest}
 use Rattle.batch.proofs.Filling.{untouched, enough, cells-grown, statuses-grown}
 use Rattle.batch.proofs.search_each.Reads as search-each
 use Rattle.batch.proofs.search_each.Kinds as search-each-kinds
 use Rattle.batch.proofs.+search_each.Lts-search_each as search-each-lts
-use Rattle.batch.proofs.record_size.Reads as record-size-reads
+use Rattle.cutting.proofs.record_size.Reads as record-size-reads
 use Rattle.batch.proofs.search_front.Reads as search-front-reads
 use Rattle.batch.proofs.+search_each.{statement}
 use Rattle.batch.proofs.+search_each.Tie.{close}

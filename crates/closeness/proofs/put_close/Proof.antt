@@ -1,8 +1,8 @@
 -- The misses and the line, the one written after the other.
 use native.Mathlib.Omega.{arith}
 use borrow.Author.Needs.{needs}
-use Rattle.text.specs.Writing.{Wrote}
-use Rattle.text.proofs.Pieces.{more, line-size, line-in-front}
+use Rattle.pieces.specs.Writing.{Wrote}
+use Rattle.pieces.proofs.Pieces.{more, line-size, line-in-front}
 use Rattle.closeness.specs.Inner.{bothLines}
 use Rattle.closeness.proofs.Printed.{misses-short, both-short}
 use Rattle.closeness.proofs.put_close.Statement.{statement}

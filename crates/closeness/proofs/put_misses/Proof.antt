@@ -1,7 +1,7 @@
 -- Three pieces, each written after the last.
 use native.Mathlib.Omega.{arith}
 use borrow.Author.Needs.{needs}
-use Rattle.text.proofs.Pieces.{more, decimal-short}
+use Rattle.pieces.proofs.Pieces.{more, decimal-short}
 use Rattle.closeness.specs.Closeness.{missesLine}
 use Rattle.closeness.proofs.put_misses.Statement.{statement}
 use Rattle.closeness.proofs.put_misses.Tie as tie

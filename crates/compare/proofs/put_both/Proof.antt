@@ -6,9 +6,9 @@ use lib.IntN.{ℤ}
 use mir.Syntax.{w32}
 use mir.Val.{toZ, ofZ}
 use mir.ValLaws.{toZ-ofZ}
-use Rattle.text.specs.Writing.{Wrote}
-use Rattle.text.proofs.Pieces.{more, line-size, line-in-front, found-short}
-use Rattle.sensitivity.specs.Calls.{costDifference}
+use Rattle.pieces.specs.Writing.{Wrote}
+use Rattle.pieces.proofs.Pieces.{more, line-size, line-in-front, found-short}
+use Rattle.alike.specs.Alike.{costDifference}
 use Rattle.compare.specs.Inner.{bothLines}
 use Rattle.compare.proofs.Printed.{change-short, both-short}
 use Rattle.compare.proofs.put_both.Statement.{statement}

@@ -6,8 +6,8 @@ use lib.IntN.{ℤ}
 use mir.Syntax.{w32}
 use mir.Val.{toZ, ofZ}
 use mir.ValLaws.{toZ-ofZ}
-use Rattle.text.specs.Writing.{Wrote}
-use Rattle.text.proofs.Pieces.{more, decimal-short}
+use Rattle.pieces.specs.Writing.{Wrote}
+use Rattle.pieces.proofs.Pieces.{more, decimal-short}
 use Rattle.compare.specs.Compare.{changeLine}
 use Rattle.compare.proofs.Printed.{sign-short}
 use Rattle.compare.proofs.put_change.Statement.{statement}

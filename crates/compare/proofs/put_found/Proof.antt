@@ -5,8 +5,8 @@ use native.Mathlib.Omega.{arith}
 use borrow.Author.Needs.{needs}
 use lib.ListN.{length, take}
 use lib.Seq.{length-take-le}
-use Rattle.text.specs.Text.{foundLine}
-use Rattle.text.proofs.Pieces.{found-short}
+use Rattle.pieces.specs.Text.{foundLine}
+use Rattle.pieces.proofs.Pieces.{found-short}
 use Rattle.compare.proofs.Printed.{in-line}
 use Rattle.compare.proofs.put_found.Statement.{statement}
 use Rattle.compare.proofs.put_found.Tie as tie

@@ -8,7 +8,7 @@ use lib.Signed.{ltZ}
 use mir.Syntax.{w32}
 use mir.Val.{toZ, ofZ}
 use mir.ValLaws.{toZ-ofZ}
-use Rattle.text.proofs.Pieces.{none}
+use Rattle.pieces.proofs.Pieces.{none}
 use Rattle.compare.specs.Compare.{sign}
 use Rattle.compare.proofs.put_sign.Statement.{statement}
 use Rattle.compare.proofs.put_sign.Tie as tie

@@ -7,8 +7,8 @@ use Rattle.choice.specs.Inner.{view}
 use Rattle.problem.specs.Problems.{Problem}
 use Rattle.problem.specs.Inner.{Dearer, Shortest}
 use Rattle.problem.proofs.Limits.{final, found-cost}
-use Rattle.node.specs.declared.Task.{Task}
-use Rattle.node.specs.States.{Posed, Bounded, Limited, Ready, Supplied}
+use Rattle.states.specs.declared.Task.{Task}
+use Rattle.states.specs.States.{Posed, Bounded, Limited, Ready, Supplied}
 use Rattle.deepening.specs.Deepening.{Priced, limitedTo}
 use Rattle.deepening.proofs.Searches.{fair-limited, counted-at, priced-below}
 use Rattle.deepening.proofs.cheaper.Statement.{statement}

@@ -8,7 +8,7 @@ use Rattle.choice.proofs.Held.{held-none}
 use Rattle.problem.specs.Problems.{Problem}
 use Rattle.problem.specs.Inner.{Past}
 use Rattle.problem.proofs.Limits.{past-next, shortest}
-use Rattle.node.specs.States.{Posed, Bounded}
+use Rattle.states.specs.States.{Posed, Bounded}
 use Rattle.deepening.specs.Deepening.{Counted}
 use Rattle.deepening.proofs.Searches.{exact-at}
 use Rattle.deepening.proofs.fewest.Statement.{statement}

@@ -5,8 +5,8 @@ use Prim.Native.Nat.{ℕ, _<_}
 use native.Mathlib.Omega.{arith}
 use borrow.Author.Needs.{needs}
 use lib.ListN.{length}
-use Rattle.batch.specs.Records.{countOf, jobAt}
-use Rattle.text.specs.Text.{inFront}
+use Rattle.cutting.specs.Records.{countOf, jobAt}
+use Rattle.pieces.specs.Text.{inFront}
 use Rattle.line.specs.Lines.{lineOf}
 use Rattle.report.proofs.Short.{refused-short}
 use Rattle.files.specs.Parts.{partAt}

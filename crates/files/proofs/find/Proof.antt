@@ -1,5 +1,5 @@
 use borrow.Author.Needs.{needs}
-use Rattle.files.specs.Files.{finding}
+use Rattle.verdicts.specs.Files.{finding}
 use Rattle.files.proofs.find.Statement.{statement}
 use Rattle.files.proofs.find.Tie as tie
 

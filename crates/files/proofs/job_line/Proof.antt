@@ -5,7 +5,7 @@ use Prim.Native.Nat.{ℕ}
 use native.Mathlib.Omega.{arith}
 use borrow.Author.Needs.{needs}
 use lib.ListN.{length}
-use Rattle.text.specs.Text.{inFront}
+use Rattle.pieces.specs.Text.{inFront}
 use Rattle.line.specs.Lines.{lineOf}
 use Rattle.files.proofs.job_line.Statement.{statement}
 use Rattle.files.proofs.job_line.Tie as tie

@@ -12,15 +12,15 @@ use borrow.Fn.PlainCycle.{Measures, is, falls, and}
 use lib.ListN.{length, getD}
 use Rattle.gate.specs.Gates.{gateOf}
 use Rattle.gate.specs.Inner.{columnStep}
-use Rattle.reach.specs.Reach.{litAt, Grown, Seen, SeenWithout}
-use Rattle.reach.proofs.Joined.{seen-joined}
+use Rattle.hashes.specs.Reach.{litAt, Grown, Seen, SeenWithout}
+use Rattle.hashes.proofs.Joined.{seen-joined}
 use Rattle.filters.specs.Sieve.{Near}
 use Rattle.filters.proofs.Nearby.{near-none, near-more, near-map}
 use Rattle.filters.proofs.Cuts.{seen-next}
 use Rattle.filters.proofs.fill.Reads as fill
 use Rattle.filters.proofs.fill.Kinds as fill-kinds
 use Rattle.filters.proofs.+fill.Lts-fill as fill-lts
-use Rattle.reach.proofs.note.Reads as note-reads
+use Rattle.noting.proofs.note.Reads as note-reads
 use Rattle.logic.proofs.wide.Reads as wide-reads
 use Rattle.filters.proofs.step.Reads as step-reads
 use Rattle.filters.proofs.+fill.{statement}

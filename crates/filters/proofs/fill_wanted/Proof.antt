@@ -2,8 +2,8 @@ use mathlib.Core.Path.{_≡_, subst}
 use mathlib.Core.List.{List}
 use Prim.Native.Nat.{ℕ}
 use borrow.Author.Needs.{needs}
-use Rattle.reach.specs.Reach.{Seen}
-use Rattle.reach.proofs.Joined.{seen-at-first}
+use Rattle.hashes.specs.Reach.{Seen}
+use Rattle.hashes.proofs.Joined.{seen-at-first}
 use Rattle.filters.specs.Sieve.{Near}
 use Rattle.filters.proofs.fill_wanted.Statement.{statement}
 use Rattle.filters.proofs.fill_wanted.Tie as tie

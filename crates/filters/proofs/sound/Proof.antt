@@ -11,8 +11,8 @@ use lib.ListN.{length, getD}
 use Rattle.logic.proofs.Chain.{both-left, both-right}
 use Rattle.logic.proofs.Members.{place-of}
 use Rattle.gate.specs.Gates.{lawful}
-use Rattle.table.specs.Layouts.{layoutsFor}
-use Rattle.reach.specs.declared.Reach.{Reach}
+use Rattle.layouts.specs.Layouts.{layoutsFor}
+use Rattle.hashes.specs.declared.Reach.{Reach}
 use Rattle.mirrors.specs.Mirrors.{wireAt, mirrors}
 use Rattle.filters.specs.Sieve.{Sound}
 use Rattle.filters.proofs.sound.Statement.{statement}

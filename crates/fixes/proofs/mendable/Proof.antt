@@ -5,8 +5,8 @@ use Prim.Native.Nat.{ℕ}
 use lib.Bits.{bitOr}
 use lib.Dec.{eqb}
 use Rattle.logic.specs.Rules.{pick, bit}
-use Rattle.fixes.specs.Inner.{rowHits}
-use Rattle.fixes.proofs.Joined.{free-mendable, fixed-mendable}
+use Rattle.hits.specs.Inner.{rowHits}
+use Rattle.hits.proofs.Joined.{free-mendable, fixed-mendable}
 use borrow.Author.Needs.{needs}
 use Rattle.fixes.proofs.mendable.Statement.{statement}
 use Rattle.fixes.proofs.mendable.Tie as tie

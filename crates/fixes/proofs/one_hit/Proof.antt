@@ -2,8 +2,8 @@ use mathlib.Core.Path.{ap, _∙_}
 use mathlib.Core.List.{[], _∷_}
 use borrow.Author.Needs.{needs}
 use Rattle.logic.specs.Rules.{bit}
-use Rattle.fixes.specs.Inner.{rowHits}
-use Rattle.fixes.proofs.Joined.{one-is}
+use Rattle.hits.specs.Inner.{rowHits}
+use Rattle.hits.proofs.Joined.{one-is}
 use Rattle.fixes.proofs.one_hit.Statement.{statement}
 use Rattle.fixes.proofs.one_hit.Tie as tie
 

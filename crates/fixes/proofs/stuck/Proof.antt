@@ -6,7 +6,7 @@ use lib.Dec.{eqb}
 use Rattle.logic.specs.Rules.{both, either, bit}
 use Rattle.outputs.specs.Owed.{lost, upTo, mendable, cleanable, fixable, stuck}
 use Rattle.products.specs.Products.{part}
-use Rattle.fixes.proofs.Joined.{bit-none}
+use Rattle.hits.proofs.Joined.{bit-none}
 use Rattle.fixes.proofs.Parts.{fixable-parts}
 use borrow.Author.Needs.{needs}
 use Rattle.fixes.proofs.stuck.Statement.{statement}

@@ -10,7 +10,7 @@ use lib.ListN.{length}
 use Rattle.outputs.specs.Owed.{fixable}
 use Rattle.products.specs.Products.{part}
 use Rattle.outputs.proofs.Wires.{three-wires}
-use Rattle.fixes.proofs.Joined.{wires-fixable, five-cells}
+use Rattle.hits.proofs.Joined.{wires-fixable, five-cells}
 use Rattle.fixes.proofs.wide_fixable.Statement.{statement}
 use Rattle.fixes.proofs.wide_fixable.Tie as tie
 

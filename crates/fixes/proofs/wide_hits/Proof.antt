@@ -10,10 +10,10 @@ use lib.Dec.{eqb}
 use lib.ListN.{getD}
 use Rattle.logic.specs.Rules.{both, bit}
 use Rattle.outputs.specs.Owed.{adds, mendableOn, cleanable}
-use Rattle.fixes.specs.Inner.{fixesOn}
+use Rattle.hits.specs.Inner.{fixesOn}
 use Rattle.products.specs.Products.{part}
 use Rattle.outputs.proofs.Wires.{narrow, data-wire}
-use Rattle.fixes.proofs.Joined.{wire-is}
+use Rattle.hits.proofs.Joined.{wire-is}
 use Rattle.fixes.proofs.wide_hits.Statement.{statement}
 use Rattle.fixes.proofs.wide_hits.Tie as tie
 

@@ -1,7 +1,7 @@
 use mathlib.Core.Path.{_∙_, ap₂}
 use borrow.Author.Needs.{needs}
 use lib.ListN.{length}
-use Rattle.verify.specs.Calls.{measuresWith, measuresOf}
+use Rattle.measures.specs.Measures.{measuresWith, measuresOf}
 use Rattle.library.proofs.measure_list.Statement.{statement}
 use Rattle.library.proofs.measure_list.Tie as tie
 

@@ -3,7 +3,7 @@ use native.Mathlib.Omega.{arith}
 use borrow.Author.Needs.{needs}
 use lib.ListN.{length}
 use Rattle.record.proofs.Kept.{sound-circuit}
-use Rattle.verify.specs.Calls.{measuresOf}
+use Rattle.measures.specs.Measures.{measuresOf}
 use Rattle.entries.specs.Library.{priceIn, durationIn}
 use Rattle.library.proofs.measures_in.Statement.{statement}
 use Rattle.library.proofs.measures_in.Tie as tie

@@ -5,7 +5,7 @@ use native.Mathlib.Omega.{arith}
 use borrow.Author.Needs.{needs}
 use lib.ListN.{length, take}
 use lib.Seq.{length-take-le}
-use Rattle.text.proofs.Pieces.{refused-short, found-short}
+use Rattle.pieces.proofs.Pieces.{refused-short, found-short}
 use Rattle.search.specs.Outcomes.{searchOf}
 use Rattle.search.proofs.Told.{when-refused, when-found}
 use Rattle.line.specs.Lines.{lineFor, lineOf}

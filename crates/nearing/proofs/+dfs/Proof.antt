@@ -19,17 +19,17 @@ use Rattle.pruned.specs.Pruned.{branches, triedUnder, triedBy}
 use Rattle.pruned.proofs.Listing.{pruned-zero}
 use Rattle.pruned.proofs.Walk.{by-entering, walk-turn, walk-end}
 use Rattle.products.specs.Products.{tableOf}
-use Rattle.node.specs.declared.Task.{Task}
-use Rattle.node.specs.declared.Node.{Node}
-use Rattle.node.specs.declared.Entry.{Entry}
-use Rattle.node.specs.States.{listOf, needless, Posed, At, Lists}
+use Rattle.states.specs.declared.Task.{Task}
+use Rattle.states.specs.declared.Node.{Node}
+use Rattle.states.specs.declared.Entry.{Entry}
+use Rattle.states.specs.States.{listOf, needless, Posed, At, Lists}
 use Rattle.nearing.specs.Loose.{loosened}
 use Rattle.nearing.proofs.dfs.Reads as dfs
 use Rattle.nearing.proofs.dfs.Kinds as dfs-kinds
 use Rattle.nearing.proofs.+dfs.Lts-dfs as dfs-lts
 use Rattle.nearing.proofs.consider_near.Reads as consider-near-reads
 use Rattle.nearing.proofs.hopeful.Reads as hopeful-reads
-use Rattle.node.proofs.advance.Reads as advance-reads
+use Rattle.advancing.proofs.advance.Reads as advance-reads
 use Rattle.products.proofs.table_of.Reads as table-of-reads
 use Rattle.nearing.proofs.+dfs.{statement}
 use Rattle.nearing.proofs.+dfs.Tie.{close}

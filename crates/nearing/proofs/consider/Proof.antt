@@ -6,12 +6,12 @@ use native.Mathlib.Omega.{arith}
 use borrow.Author.Needs.{needs}
 use lib.ListN.{length, take}
 use lib.Seq.{take-all}
-use Rattle.table.specs.Layouts.{layoutsFor}
+use Rattle.layouts.specs.Layouts.{layoutsFor}
 use Rattle.choice.specs.Choices.{Choice, attempt, improve}
 use Rattle.choice.specs.Inner.{view}
 use Rattle.problem.specs.Problems.{Problem, choiceOf, within}
-use Rattle.node.specs.States.{listOf, Asks, At}
-use Rattle.node.proofs.Nodes.{layouts-turn}
+use Rattle.states.specs.States.{listOf, Asks, At}
+use Rattle.states.proofs.Nodes.{layouts-turn}
 use Rattle.nearing.specs.Loose.{loosened}
 use Rattle.nearing.proofs.Near.{here-is}
 use Rattle.nearing.proofs.consider.Statement.{statement}

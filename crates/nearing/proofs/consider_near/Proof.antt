@@ -4,7 +4,7 @@ use borrow.Author.Needs.{needs}
 use native.Mathlib.Omega.{arith}
 use Rattle.choice.specs.Inner.{view}
 use Rattle.misses.specs.Columns.{missedAtLeast}
-use Rattle.node.specs.States.{listOf}
+use Rattle.states.specs.States.{listOf}
 use Rattle.nearing.proofs.Near.{alone-far}
 use Rattle.nearing.proofs.consider_near.Statement.{statement}
 use Rattle.nearing.proofs.consider_near.Tie as tie

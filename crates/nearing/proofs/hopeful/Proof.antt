@@ -12,8 +12,8 @@ use Rattle.choice.specs.Inner.{view}
 use Rattle.problem.proofs.Skips.{cut-depth}
 use Rattle.pruned.proofs.Walk.{by-skip, by-bound}
 use Rattle.misses.specs.Columns.{missedAtLeast}
-use Rattle.node.specs.States.{listOf, needless}
-use Rattle.node.proofs.Nodes.{cost-snoc, follow-list}
+use Rattle.states.specs.States.{listOf, needless}
+use Rattle.states.proofs.Nodes.{cost-snoc, follow-list}
 use Rattle.nearing.specs.Loose.{loosened}
 use Rattle.nearing.proofs.Near.{far}
 use Rattle.nearing.proofs.hopeful.Statement.{statement}

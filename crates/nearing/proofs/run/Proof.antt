@@ -11,7 +11,7 @@ use Rattle.choice.specs.Inner.{view}
 use Rattle.problem.specs.Problems.{firstGood}
 use Rattle.problem.specs.Inner.{lookedUnder}
 use Rattle.pruned.specs.Pruned.{triedUnder}
-use Rattle.node.specs.States.{needless}
+use Rattle.states.specs.States.{needless}
 use Rattle.nearing.specs.Loose.{loosened}
 use Rattle.nearing.proofs.Near.{nothing-lost}
 use Rattle.nearing.proofs.run.Statement.{statement}

@@ -9,8 +9,8 @@ use Rattle.choice.specs.Choices.{keep}
 use Rattle.choice.specs.Inner.{view}
 use Rattle.choice.proofs.First.{attempt-not}
 use Rattle.problem.specs.Problems.{Problem, choiceOf, within}
-use Rattle.node.specs.States.{listOf, Asks, At}
-use Rattle.node.proofs.Nodes.{attempt-good, mine-is}
+use Rattle.states.specs.States.{listOf, Asks, At}
+use Rattle.states.proofs.Nodes.{attempt-good, mine-is}
 use Rattle.nearing.specs.Loose.{loosened}
 use Rattle.nearing.proofs.Near.{good-is}
 use Rattle.nearing.proofs.try_layout.Statement.{statement}

@@ -7,8 +7,8 @@ use native.Mathlib.Omega.{arith}
 use borrow.Author.Tests.{leb-false}
 use Rattle.gate.specs.declared.Gate.{Gate}
 use Rattle.circuit.specs.Measure.{depth, greatest, hold}
-use Rattle.node.specs.States.{listOf}
-use Rattle.node.proofs.Nodes.{depth-after}
+use Rattle.states.specs.States.{listOf}
+use Rattle.states.proofs.Nodes.{depth-after}
 use Rattle.node.proofs.in_time.Statement.{statement}
 use Rattle.node.proofs.in_time.Tie as tie
 

@@ -1,7 +1,7 @@
 use borrow.Author.Needs.{needs}
 use mathlib.Core.Path.{ap₂, _∙_}
 use Rattle.logic.specs.Rules.{either}
-use Rattle.node.proofs.Forms.{needless-told}
+use Rattle.states.proofs.Forms.{needless-told}
 use Rattle.node.proofs.needless.Statement.{statement}
 use Rattle.node.proofs.needless.Tie as tie
 

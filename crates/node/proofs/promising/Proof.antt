@@ -13,10 +13,10 @@ use Rattle.choice.specs.Inner.{view}
 use Rattle.problem.proofs.Skips.{cut-depth}
 use Rattle.pruned.proofs.Walk.{by-skip, by-bound}
 use Rattle.outputs.specs.Owed.{stuck}
-use Rattle.reach.specs.Reach.{sharesOf, held}
-use Rattle.node.specs.States.{listOf, needless}
-use Rattle.node.proofs.Nodes.{cost-snoc}
-use Rattle.node.proofs.Reaches.{unseen, stuck-after}
+use Rattle.hashes.specs.Reach.{sharesOf, held}
+use Rattle.states.specs.States.{listOf, needless}
+use Rattle.states.proofs.Nodes.{cost-snoc}
+use Rattle.states.proofs.Reaches.{unseen, stuck-after}
 use Rattle.node.proofs.promising.Statement.{statement}
 use Rattle.node.proofs.promising.Tie as tie
 

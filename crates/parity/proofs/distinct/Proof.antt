@@ -8,7 +8,7 @@ use borrow.Author.Tests.{not-true, not-false}
 use borrow.Author.Needs.{needs}
 use lib.ListN.{length}
 use Rattle.table.specs.Rows.{valueOf}
-use Rattle.record.proofs.Rest.{part}
+use Rattle.fields.proofs.Rest.{part}
 use Rattle.parity.specs.Parity.{distinct}
 use Rattle.parity.proofs.Values.{from, distinct-turn, distinct-done}
 use Rattle.parity.proofs.distinct.Statement.{statement}

@@ -6,7 +6,7 @@ use native.Mathlib.Omega.{arith}
 use borrow.Author.Needs.{needs}
 use lib.ListN.{length, length-drop}
 use Rattle.table.specs.Rows.{valueOf}
-use Rattle.record.proofs.Rest.{part}
+use Rattle.fields.proofs.Rest.{part}
 use Rattle.parity.specs.Parity.{smaller, inversions}
 use Rattle.parity.proofs.Values.{from, inversions-more, inversions-done}
 use Rattle.parity.proofs.inversions.Statement.{statement}

@@ -6,7 +6,7 @@ use borrow.Author.Needs.{needs}
 use lib.ListN.{length, take}
 use lib.Seq.{take-length}
 use Rattle.logic.specs.Answers.{refused}
-use Rattle.table.specs.Layouts.{Width}
+use Rattle.layouts.specs.Layouts.{Width}
 use Rattle.windows.specs.Windows.{rewritten}
 use Rattle.windows.specs.Listings.{rewriteCode}
 use Rattle.windows.proofs.Promises.{code-sound}

@@ -3,7 +3,7 @@ use mathlib.Core.Bool.{not}
 use mathlib.Core.List.{List}
 use Prim.Native.Nat.{ℕ}
 use borrow.Author.Needs.{needs}
-use Rattle.reach.specs.Reach.{partOf, keyOf, litAt}
+use Rattle.hashes.specs.Reach.{partOf, keyOf, litAt}
 use Rattle.reach.proofs.beyond.Statement.{statement}
 use Rattle.reach.proofs.beyond.Tie as tie
 

@@ -1,6 +1,6 @@
 use mathlib.Core.Path.{_≡_, ap, _∙_}
 use borrow.Author.Needs.{needs}
-use Rattle.reach.specs.Reach.{keyOf, litAt}
+use Rattle.hashes.specs.Reach.{keyOf, litAt}
 use Rattle.reach.proofs.holds.Statement.{statement}
 use Rattle.reach.proofs.holds.Tie as tie
 

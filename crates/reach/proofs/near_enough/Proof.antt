@@ -3,7 +3,7 @@ use mathlib.Core.Bool.{true≢false}
 use native.Mathlib.Omega.{arith}
 use borrow.Author.Needs.{needs}
 use borrow.Author.Tests.{not-true, not-false}
-use Rattle.reach.specs.Reach.{sharesOf, held}
+use Rattle.hashes.specs.Reach.{sharesOf, held}
 use Rattle.reach.proofs.near_enough.Statement.{statement}
 use Rattle.reach.proofs.near_enough.Tie as tie
 

@@ -6,8 +6,8 @@ use borrow.Author.Needs.{needs}
 use Rattle.logic.specs.Rules.{bit}
 use Rattle.logic.specs.Bit.{bitOf}
 use Rattle.logic.proofs.Counts.{bit-le}
-use Rattle.reach.specs.Reach.{held}
-use Rattle.reach.proofs.Words.{spelt}
+use Rattle.hashes.specs.Reach.{held}
+use Rattle.hashes.proofs.Words.{spelt}
 use Rattle.reach.proofs.open_alone.Statement.{statement}
 use Rattle.reach.proofs.open_alone.Tie as tie
 

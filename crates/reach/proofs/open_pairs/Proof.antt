@@ -6,9 +6,9 @@ use borrow.Author.Needs.{needs}
 use Rattle.logic.specs.Rules.{bit, someBelow}
 use Rattle.logic.specs.Bit.{bitOf}
 use Rattle.logic.proofs.Counts.{bit-le}
-use Rattle.reach.specs.Reach.{keyOf, litAt, held}
-use Rattle.reach.proofs.Sums.{part-swap}
-use Rattle.reach.proofs.Words.{spelt}
+use Rattle.hashes.specs.Reach.{keyOf, litAt, held}
+use Rattle.hashes.proofs.Sums.{part-swap}
+use Rattle.hashes.proofs.Words.{spelt}
 use Rattle.reach.proofs.open_pairs.Statement.{statement}
 use Rattle.reach.proofs.open_pairs.Tie as tie
 

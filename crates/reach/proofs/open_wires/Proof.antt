@@ -11,9 +11,9 @@ use lib.ListN.{length}
 use Rattle.logic.specs.Rules.{pick, bit, someBelow}
 use Rattle.logic.specs.Bit.{bitOf}
 use Rattle.logic.proofs.Counts.{some-at}
-use Rattle.reach.specs.declared.Reach.{Reach}
-use Rattle.reach.specs.Reach.{sharesOf, partOf, keyOf, litAt, held, openOn}
-use Rattle.reach.proofs.Words.{spelt}
+use Rattle.hashes.specs.declared.Reach.{Reach}
+use Rattle.hashes.specs.Reach.{sharesOf, partOf, keyOf, litAt, held, openOn}
+use Rattle.hashes.proofs.Words.{spelt}
 use Rattle.reach.proofs.open_wires.Statement.{statement}
 use Rattle.reach.proofs.open_wires.Tie as tie
 

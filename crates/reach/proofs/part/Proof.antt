@@ -2,8 +2,8 @@ use mathlib.Core.Path.{_≡_, refl, sym, ap, _∙_}
 use Prim.Native.Nat.{ℕ}
 use native.Mathlib.Omega.{arith}
 use borrow.Author.Needs.{needs}
-use Rattle.reach.specs.Reach.{partOf}
-use Rattle.reach.proofs.Sums.{part-same, part-one, part-two}
+use Rattle.hashes.specs.Reach.{partOf}
+use Rattle.hashes.proofs.Sums.{part-same, part-one, part-two}
 use Rattle.reach.proofs.part.Statement.{statement}
 use Rattle.reach.proofs.part.Tie as tie
 

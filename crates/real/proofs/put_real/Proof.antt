@@ -2,9 +2,9 @@
 use mathlib.Core.Path.{_≡_, ap, ap₂}
 use native.Mathlib.Omega.{arith}
 use lib.ListN.{length}
-use Rattle.record.specs.Jobs.{dataWires, ancillas}
+use Rattle.fields.specs.Jobs.{dataWires, ancillas}
 use Rattle.record.proofs.Kept.{sound-circuit}
-use Rattle.text.proofs.Pieces.{more}
+use Rattle.pieces.proofs.Pieces.{more}
 use Rattle.rendering.specs.Parts.{headingFor}
 use Rattle.rendering.proofs.Lines.{over-length}
 use Rattle.real.proofs.Texts.{text-parts, text-length, code-sound, lawful-five}

@@ -3,7 +3,7 @@ use mathlib.Core.Bool.{not}
 use borrow.Author.Needs.{needs}
 use lib.Dec.{eqb}
 use Rattle.logic.specs.Rules.{rule, andThen}
-use Rattle.table.specs.Layouts.{plain}
+use Rattle.layouts.specs.Layouts.{plain}
 use Rattle.revlib.specs.Writing.{textCode}
 use Rattle.real.proofs.text_code.Statement.{statement}
 use Rattle.real.proofs.text_code.Tie as tie

@@ -2,7 +2,7 @@
 use mathlib.Core.Path.{sym, _∙_}
 use borrow.Author.Tests.{not-true, not-false}
 use borrow.Author.Needs.{needs}
-use Rattle.record.specs.Circuits.{circuitCode}
+use Rattle.record.specs.CircuitRules.{circuitCode}
 use Rattle.record.specs.Inner.{circuitRest}
 use Rattle.record.proofs.Kept.{long-enough, data-cases}
 use Rattle.record.proofs.circuit_code.Statement.{statement}

@@ -1,5 +1,5 @@
 use borrow.Author.Needs.{needs}
-use Rattle.record.specs.Circuits.{circuitLengthOk}
+use Rattle.record.specs.CircuitRules.{circuitLengthOk}
 use Rattle.record.proofs.circuit_length_ok.Statement.{statement}
 use Rattle.record.proofs.circuit_length_ok.Tie as tie
 

@@ -2,7 +2,7 @@
 use mathlib.Core.Path.{_∙_, ap₂}
 use borrow.Author.Needs.{needs}
 use Rattle.logic.specs.Rules.{rule}
-use Rattle.table.specs.Layouts.{layoutOk}
+use Rattle.layouts.specs.Layouts.{layoutOk}
 use Rattle.record.specs.Inner.{circuitRest}
 use Rattle.record.proofs.circuit_rest.Statement.{statement}
 use Rattle.record.proofs.circuit_rest.Tie as tie

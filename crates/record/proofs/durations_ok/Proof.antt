@@ -2,7 +2,7 @@ use mathlib.Core.Path.{_∙_}
 use borrow.Author.Needs.{needs}
 use lib.Dec.{leb}
 use Rattle.logic.specs.Rules.{both, implies}
-use Rattle.record.specs.Jobs.{durationsOk}
+use Rattle.record.specs.JobRules.{durationsOk}
 use Rattle.record.proofs.durations_ok.Statement.{statement}
 use Rattle.record.proofs.durations_ok.Tie as tie
 

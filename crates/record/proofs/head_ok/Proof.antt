@@ -3,7 +3,7 @@ use Prim.Native.Nat.{_%_}
 use borrow.Author.Needs.{needs}
 use lib.Dec.{leb, eqb}
 use Rattle.logic.specs.Rules.{both}
-use Rattle.record.specs.Jobs.{headOk}
+use Rattle.record.specs.JobRules.{headOk}
 use Rattle.record.proofs.head_ok.Statement.{statement}
 use Rattle.record.proofs.head_ok.Tie as tie
 

@@ -1,7 +1,7 @@
 use mathlib.Core.Path.{sym, _∙_}
 use borrow.Author.Tests.{not-true, not-false}
 use borrow.Author.Needs.{needs}
-use Rattle.record.specs.Jobs.{jobCode}
+use Rattle.record.specs.JobRules.{jobCode}
 use Rattle.record.specs.Inner.{jobRest}
 use Rattle.record.proofs.job_code.Statement.{statement}
 use Rattle.record.proofs.job_code.Tie as tie

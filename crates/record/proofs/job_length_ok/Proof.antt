@@ -1,7 +1,7 @@
 use mathlib.Core.Path.{ap₂, _∙_}
 use borrow.Author.Needs.{needs}
 use Rattle.logic.specs.Rules.{either}
-use Rattle.record.specs.Jobs.{jobLengthOk}
+use Rattle.record.specs.JobRules.{jobLengthOk}
 use Rattle.record.proofs.job_length_ok.Statement.{statement}
 use Rattle.record.proofs.job_length_ok.Tie as tie
 

@@ -1,7 +1,7 @@
 use mathlib.Core.Path.{ap}
 use borrow.Author.Needs.{needs}
 use lib.Dec.{leb}
-use Rattle.record.specs.Jobs.{limitOk}
+use Rattle.record.specs.JobRules.{limitOk}
 use Rattle.record.proofs.limit_ok.Statement.{statement}
 use Rattle.record.proofs.limit_ok.Tie as tie
 

@@ -2,7 +2,7 @@ use mathlib.Core.Path.{_∙_}
 use borrow.Author.Needs.{needs}
 use Rattle.logic.specs.Lists.{allOf}
 use Rattle.table.specs.Rows.{rowOk}
-use Rattle.record.specs.Jobs.{rowsOk}
+use Rattle.record.specs.JobRules.{rowsOk}
 use Rattle.record.proofs.rows_ok.Statement.{statement}
 use Rattle.record.proofs.rows_ok.Tie as tie
 

@@ -3,7 +3,7 @@ use Prim.Native.Nat.{_/_, _%_}
 use borrow.Author.Needs.{needs}
 use lib.Dec.{leb, eqb}
 use Rattle.logic.specs.Rules.{both, either}
-use Rattle.record.specs.Circuits.{shapeOk}
+use Rattle.record.specs.CircuitRules.{shapeOk}
 use Rattle.record.proofs.shape_ok.Statement.{statement}
 use Rattle.record.proofs.shape_ok.Tie as tie
 

@@ -2,7 +2,7 @@ use mathlib.Core.Path.{ap₂, _∙_}
 use borrow.Author.Needs.{needs}
 use lib.Dec.{eqb}
 use Rattle.logic.specs.Rules.{both, either}
-use Rattle.record.specs.Jobs.{sizeOk}
+use Rattle.record.specs.JobRules.{sizeOk}
 use Rattle.record.proofs.size_ok.Statement.{statement}
 use Rattle.record.proofs.size_ok.Tie as tie
 

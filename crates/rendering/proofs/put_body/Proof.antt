@@ -7,7 +7,7 @@ use borrow.Author.Needs.{needs}
 use lib.ListN.{length, drop}
 use Rattle.logic.proofs.Fold.{all-at}
 use Rattle.gate.specs.Gates.{lawful}
-use Rattle.text.specs.Writing.{over}
+use Rattle.pieces.specs.Writing.{over}
 use Rattle.revlib.specs.Grammar.{body}
 use Rattle.revlib.specs.Writing.{lineFor}
 use Rattle.rendering.proofs.Lines.{body-size, body-last, laid-next, over-length}

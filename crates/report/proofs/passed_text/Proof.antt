@@ -1,8 +1,8 @@
 -- The two lines, one after the other: together they are the text, and the rest of the buffer stays.
 use native.Mathlib.Omega.{arith}
 use borrow.Author.Needs.{needs}
-use Rattle.text.specs.Writing.{Wrote}
-use Rattle.text.proofs.Pieces.{more, line-size, line-in-front}
+use Rattle.pieces.specs.Writing.{Wrote}
+use Rattle.pieces.proofs.Pieces.{more, line-size, line-in-front}
 use Rattle.report.specs.Report.{passedText}
 use Rattle.report.proofs.Short.{passed-line-short, passed-short}
 use Rattle.report.proofs.passed_text.Statement.{statement}

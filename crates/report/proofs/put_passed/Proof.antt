@@ -1,7 +1,7 @@
 -- Five pieces, each written after the last: together they are the line.
 use native.Mathlib.Omega.{arith}
 use borrow.Author.Needs.{needs}
-use Rattle.text.proofs.Pieces.{more, spaced-short, decimal-short}
+use Rattle.pieces.proofs.Pieces.{more, spaced-short, decimal-short}
 use Rattle.report.specs.Report.{passedLine}
 use Rattle.report.proofs.put_passed.Statement.{statement}
 use Rattle.report.proofs.put_passed.Tie as tie

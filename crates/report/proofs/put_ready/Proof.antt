@@ -1,7 +1,7 @@
 -- The word, the times and a line feed, each written after the last.
 use native.Mathlib.Omega.{arith}
 use borrow.Author.Needs.{needs}
-use Rattle.text.proofs.Pieces.{more}
+use Rattle.pieces.proofs.Pieces.{more}
 use Rattle.report.specs.Report.{readyLine}
 use Rattle.report.proofs.Short.{times-short}
 use Rattle.report.proofs.put_ready.Statement.{statement}

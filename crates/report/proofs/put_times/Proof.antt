@@ -1,7 +1,7 @@
 -- Five times, each written after the last.
 use native.Mathlib.Omega.{arith}
 use borrow.Author.Needs.{needs}
-use Rattle.text.proofs.Pieces.{more, spaced-short}
+use Rattle.pieces.proofs.Pieces.{more, spaced-short}
 use Rattle.report.specs.Report.{times}
 use Rattle.report.proofs.put_times.Statement.{statement}
 use Rattle.report.proofs.put_times.Tie as tie

@@ -1,10 +1,11 @@
 -- The line, the sentence and a line feed, each written after the last.
 use native.Mathlib.Omega.{arith}
 use borrow.Author.Needs.{needs}
-use Rattle.text.specs.Writing.{Wrote}
-use Rattle.text.proofs.Pieces.{more, line-size, line-in-front}
+use Rattle.pieces.specs.Writing.{Wrote}
+use Rattle.pieces.proofs.Pieces.{more, line-size, line-in-front}
 use Rattle.report.specs.Report.{refusedText}
-use Rattle.report.proofs.Short.{meaning-short, refused-line-short, refused-short}
+use Rattle.meanings.proofs.Brief.{meaning-short}
+use Rattle.report.proofs.Short.{refused-line-short, refused-short}
 use Rattle.report.proofs.refused_text.Statement.{statement}
 use Rattle.report.proofs.refused_text.Tie as tie
 

@@ -1,7 +1,7 @@
 -- A word, two numbers and a line feed, each written after the last.
 use native.Mathlib.Omega.{arith}
 use borrow.Author.Needs.{needs}
-use Rattle.text.proofs.Pieces.{more, spaced-short}
+use Rattle.pieces.proofs.Pieces.{more, spaced-short}
 use Rattle.rewriting.specs.Rewriting.{countLine}
 use Rattle.rewriting.proofs.Printed.{millions-short}
 use Rattle.rewriting.proofs.put_counts.Statement.{statement}

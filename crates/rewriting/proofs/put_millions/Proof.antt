@@ -1,7 +1,7 @@
 -- Two places and the five below them, each written after the last.
 use native.Mathlib.Omega.{arith}
 use borrow.Author.Needs.{needs}
-use Rattle.text.proofs.Pieces.{more, place-short}
+use Rattle.pieces.proofs.Pieces.{more, place-short}
 use Rattle.rewriting.specs.Rewriting.{millions}
 use Rattle.rewriting.proofs.put_millions.Statement.{statement}
 use Rattle.rewriting.proofs.put_millions.Tie as tie

@@ -4,8 +4,8 @@ use native.Mathlib.Omega.{arith}
 use borrow.Author.Needs.{needs}
 use lib.ListN.{length}
 use Rattle.logic.specs.Words.{bytes}
-use Rattle.text.specs.Writing.{Wrote}
-use Rattle.text.proofs.Pieces.{more, line-size, line-in-front, hex-length}
+use Rattle.pieces.specs.Writing.{Wrote}
+use Rattle.pieces.proofs.Pieces.{more, line-size, line-in-front, hex-length}
 use Rattle.rewriting.specs.Rewriting.{rewrittenText}
 use Rattle.rewriting.proofs.Printed.{count-short, text-short}
 use Rattle.rewriting.proofs.put_rewritten.Statement.{statement}

@@ -7,7 +7,7 @@ use borrow.Author.Needs.{needs}
 use lib.ListN.{length, take}
 use lib.Seq.{take-length, length-take-le}
 use Rattle.logic.specs.Answers.{refused, answered}
-use Rattle.text.specs.Text.{inFront}
+use Rattle.pieces.specs.Text.{inFront}
 use Rattle.report.proofs.Short.{refused-short}
 use Rattle.windows.specs.declared.Prices.{Prices}
 use Rattle.windows.specs.Windows.{costAt}

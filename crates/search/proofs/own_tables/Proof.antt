@@ -10,7 +10,7 @@ use Rattle.gate.specs.Gates.{gatesFor}
 use Rattle.gate.proofs.Tables.{gates-most, gate-is}
 use Rattle.circuit.specs.declared.Weights.{Weights}
 use Rattle.circuit.specs.Measure.{weightOf}
-use Rattle.record.specs.Jobs.{longer, mostControls, wires}
+use Rattle.fields.specs.Jobs.{longer, mostControls, wires}
 use Rattle.record.proofs.Kept.{wires-within, two-or-three}
 use Rattle.search.specs.Outcomes.{ownSet}
 use Rattle.search.specs.Inner.{Lawfuls, Tabled}

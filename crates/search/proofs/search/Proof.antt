@@ -4,7 +4,7 @@ use Prim.Native.Nat.{_≤_}
 use native.Mathlib.Omega.{arith}
 use borrow.Author.Needs.{needs}
 use lib.ListN.{length}
-use Rattle.record.specs.Jobs.{jobCode}
+use Rattle.record.specs.JobRules.{jobCode}
 use Rattle.logic.specs.Answers.{Answer}
 use Rattle.search.specs.Outcomes.{Found, ownSet, searchCode, searchOf, searchOver, reported, written}
 use Rattle.search.proofs.Facts.{code-parts}

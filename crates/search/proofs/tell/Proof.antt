@@ -6,8 +6,8 @@ use borrow.Author.Tests.{not-true, not-false}
 use borrow.Author.Needs.{needs}
 use lib.ListN.{length}
 use Rattle.logic.specs.Answers.{Answer}
-use Rattle.record.specs.Jobs.{ancillas}
-use Rattle.record.proofs.Written.{record-size}
+use Rattle.fields.specs.Jobs.{ancillas}
+use Rattle.writing.proofs.Copied.{record-size}
 use Rattle.search.specs.Outcomes.{Found, reported, written}
 use Rattle.search.proofs.Answer.{missing, reached, told, wrote}
 use Rattle.search.proofs.tell.Statement.{statement}

@@ -8,7 +8,7 @@ use borrow.Author.Tests.{not-false}
 use Rattle.problem.specs.Problems.{Problem}
 use Rattle.problem.proofs.Limits.{past-none}
 use Rattle.filters.proofs.Sieves.{no-sieve}
-use Rattle.node.specs.States.{Posed, Limited, Bounded, Supplied}
+use Rattle.states.specs.States.{Posed, Limited, Bounded, Supplied}
 use Rattle.deepening.specs.Deepening.{Deepened}
 use Rattle.solver.specs.States.{Settled}
 use Rattle.solver.proofs.Handover.{supplied, deepened-held}

@@ -1,8 +1,8 @@
 -- Three pieces, each written after the last.
 use native.Mathlib.Omega.{arith}
 use borrow.Author.Needs.{needs}
-use Rattle.text.specs.Text.{refusedLine}
-use Rattle.text.proofs.Pieces.{more, decimal-short}
+use Rattle.pieces.specs.Text.{refusedLine}
+use Rattle.pieces.proofs.Pieces.{more, decimal-short}
 use Rattle.text.proofs.put_refused.Statement.{statement}
 use Rattle.text.proofs.put_refused.Tie as tie
 

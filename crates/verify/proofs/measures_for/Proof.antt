@@ -4,7 +4,7 @@ use borrow.Author.Needs.{needs}
 use lib.ListN.{length}
 use Rattle.circuit.specs.Measure.{weightOf}
 use Rattle.record.proofs.Kept.{sound-circuit}
-use Rattle.verify.specs.Calls.{measuresOf}
+use Rattle.measures.specs.Measures.{measuresOf}
 use Rattle.verify.proofs.measures_for.Statement.{statement}
 use Rattle.verify.proofs.measures_for.Tie as tie
 

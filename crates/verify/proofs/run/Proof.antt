@@ -9,7 +9,7 @@ use borrow.Author.Needs.{needs}
 use Rattle.logic.specs.Rules.{pick}
 use Rattle.logic.specs.Answers.{answered}
 use Rattle.circuit.specs.Run.{forwards, backwards}
-use Rattle.record.specs.Circuits.{gates}
+use Rattle.fields.specs.Circuits.{gates}
 use Rattle.verify.specs.Calls.{runCode, runOf}
 use Rattle.verify.proofs.Codes.{ran-small}
 use Rattle.verify.proofs.run.Statement.{statement}

@@ -3,7 +3,7 @@ use mathlib.Core.Path.{_∙_}
 use borrow.Author.Needs.{needs}
 use Rattle.logic.specs.Rules.{rule}
 use Rattle.circuit.specs.Run.{forwards}
-use Rattle.table.specs.Layouts.{allowed}
+use Rattle.layouts.specs.Layouts.{allowed}
 use Rattle.table.specs.Rows.{agrees, clean}
 use Rattle.record.proofs.Kept.{sound-job}
 use Rattle.verify.specs.Calls.{verifyRest}

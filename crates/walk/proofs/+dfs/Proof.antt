@@ -28,13 +28,13 @@ use Rattle.outputs.specs.Owed.{lost}
 use Rattle.products.specs.Products.{tableOf}
 use Rattle.plan.specs.Plan.{planOf}
 use Rattle.filters.specs.Sieve.{Sieve}
-use Rattle.node.specs.declared.Task.{Task}
-use Rattle.node.specs.declared.Node.{Node}
-use Rattle.node.specs.declared.Entry.{Entry}
-use Rattle.node.specs.States.{listOf, needless, Posed, Bounded, At, Exact, Lists}
-use Rattle.node.proofs.Nodes.{five-columns}
-use Rattle.node.proofs.Reaches.{far, shut, not-worth}
-use Rattle.node.proofs.Exactly.{exact-next}
+use Rattle.states.specs.declared.Task.{Task}
+use Rattle.states.specs.declared.Node.{Node}
+use Rattle.states.specs.declared.Entry.{Entry}
+use Rattle.states.specs.States.{listOf, needless, Posed, Bounded, At, Exact, Lists}
+use Rattle.states.proofs.Nodes.{five-columns}
+use Rattle.states.proofs.Reaches.{far, shut, not-worth}
+use Rattle.states.proofs.Exactly.{exact-next}
 use Rattle.walk.proofs.dfs.Reads as dfs
 use Rattle.walk.proofs.dfs.Kinds as dfs-kinds
 use Rattle.walk.proofs.+dfs.Lts-dfs as dfs-lts
@@ -42,10 +42,10 @@ use Rattle.logic.proofs.either.Reads as either-reads
 use Rattle.plan.proofs.plan_of.Reads as plan-of-reads
 use Rattle.products.proofs.table_of.Reads as table-of-reads
 use Rattle.reach.proofs.open_wires.Reads as open-wires-reads
-use Rattle.node.proofs.advance.Reads as advance-reads
-use Rattle.node.proofs.affordable.Reads as affordable-reads
-use Rattle.node.proofs.consider_met.Reads as consider-met-reads
-use Rattle.node.proofs.impossible.Reads as impossible-reads
+use Rattle.advancing.proofs.advance.Reads as advance-reads
+use Rattle.offers.proofs.affordable.Reads as affordable-reads
+use Rattle.offers.proofs.consider_met.Reads as consider-met-reads
+use Rattle.offers.proofs.impossible.Reads as impossible-reads
 use Rattle.node.proofs.eligible.Reads as eligible-reads
 use Rattle.node.proofs.promising.Reads as promising-reads
 use Rattle.walk.proofs.+dfs.{statement}

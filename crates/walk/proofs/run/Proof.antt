@@ -9,8 +9,8 @@ use lib.ListN.{take}
 use Rattle.choice.specs.Choices.{Choice}
 use Rattle.choice.specs.Inner.{view}
 use Rattle.pruned.specs.Pruned.{triedUnder}
-use Rattle.node.specs.States.{needless, Exact}
-use Rattle.node.proofs.Forms.{nothing-lost}
+use Rattle.states.specs.States.{needless, Exact}
+use Rattle.states.proofs.Forms.{nothing-lost}
 use Rattle.walk.proofs.run.Statement.{statement}
 use Rattle.walk.proofs.run.Tie as tie
 

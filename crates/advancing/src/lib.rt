@@ -1,0 +1,59 @@
+// The node one gate further.
+use states::Entry;
+use states::Least;
+use states::Node;
+use states::Task;
+ghost use mathlib.Core.Path.{_≡_};
+ghost use mathlib.Core.List.{List, [], _∷_, _++_};
+ghost use Prim.Native.Nat.{ℕ, _+_, _≤_, _<_};
+ghost use lib.ListN.{length};
+ghost use Rattle.logic.specs.Lists.{Among};
+ghost use Rattle.gate.specs.Gates.{targetOf};
+ghost use Rattle.circuit.specs.Inner.{columnsAfter};
+ghost use Rattle.layouts.specs.Layouts.{Width};
+ghost use Rattle.columns.specs.Wanted.{startColumns};
+ghost use Rattle.problem.specs.Problems.{Problem};
+ghost use Rattle.products.specs.Products.{tableOf};
+ghost use Rattle.states.specs.States.{Small, Needs, Asks, At, Lists, Follows};
+
+// How many heavy gates each way to finish has at least, after gate `g` led to these columns; before it there were `needs`.
+fn still_needed(task: Task, least: Least, columns: [u16; 5], g: u8, needs: usize) -> usize
+    requires { ⌜ Width (task .outputs) × (needs ≤ 12) ⌝ }
+    ensures { λ r. ⌜ ((P : Problem) (l : List ℕ) → Asks P task → Among (P .gates) (l ++ (g ∷ [])) → columns ≡ columnsAfter (l ++ (g ∷ [])) startColumns → Needs P l needs → Needs P (l ++ (g ∷ [])) r) ⌝ }
+    ensures { λ r. ⌜ r ≤ 12 ⌝ }
+{
+    if least.extra == 0 {
+        return 0;
+    }
+    if !budget::heavy(g) {
+        return needs;
+    }
+    let wanted = task.wanted;
+    span::needed(wanted, columns, task.outputs)
+}
+
+// The node one gate further.
+pub fn advance(table: &[u16], task: Task, least: Least, s: Node, entry: Entry) -> Node
+    requires { ⌜ (length (now table) ≡ 40) × (targetOf (entry .gate) < 5) ⌝ }
+    requires { ⌜ Width (task .outputs) × (s .len < 12) ⌝ }
+    requires { ⌜ Small s ⌝ }
+    ensures { λ r. ⌜ (r .len ≡ s .len + 1) × Small r ⌝ }
+    ensures { λ r. ⌜ ((P : Problem) → Asks P task → At P s → Lists P entry → now (table .entry) ≡ tableOf (task .controls) (task .wanted) (s .columns) → Follows P s (entry .gate) r) ⌝ }
+{
+    let before = s.columns;
+    let columns = products::step(table, before, entry.gate);
+    let times = s.times;
+    let marks = s.marks;
+    let len = s.len;
+    let mut path = s.path;
+    path[len] = entry.gate;
+    Node {
+        columns,
+        times: circuit::hold(gate::decode(entry.gate), entry.duration, times),
+        cost: s.cost + entry.price as u16,
+        path,
+        len: len + 1,
+        needs: still_needed(task, least, columns, entry.gate, s.needs),
+        marks: masks::step(entry.gate, marks),
+    }
+}

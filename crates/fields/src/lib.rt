@@ -1,0 +1,167 @@
+// The fields of job and circuit records.
+use circuit::Weights;
+ghost use mathlib.Core.Path.{_≡_};
+ghost use Prim.Native.Nat.{_≤_, _<_};
+ghost use lib.ListN.{getD};
+ghost use Rattle.logic.specs.Rules.{pick};
+ghost use Rattle.fields.specs.Jobs.{longer, mostControls, dataWires, ancillas, wires, freeLayout, gateLimit, word, costLimit, depthLimit, weightsAt};
+ghost use Rattle.fields.specs.Jobs.{prices, durations, rows};
+ghost use Rattle.fields.specs.Circuits.{marked, controlsOf, layoutOf, countOf, gates};
+
+// Whether a job is one of the longer records, of 22 or 30 bytes.
+pub fn longer(job: &[u8]) -> bool
+    ensures { λ r. ⌜ r ≡ longer (now (job .entry)) ⌝ }
+{
+    logic::either(job.len() == 22, job.len() == 30)
+}
+
+// The greatest number of controls that a job allows a gate.
+pub fn most_controls(job: &[u8]) -> usize
+    ensures { λ r. ⌜ r ≡ mostControls (now (job .entry)) ⌝ }
+{
+    if longer(job) { 3 } else { 2 }
+}
+
+// The number of data wires of a record, n.
+pub fn data_wires(bytes: &[u8]) -> usize
+    ensures { λ r. ⌜ r ≡ dataWires (now (bytes .entry)) ⌝ }
+    ensures { λ r. ⌜ r < 8 ⌝ }
+{
+    logic::wide(logic::at(bytes, 0)) / 32
+}
+
+// The number of ancillas of a record, m.
+pub fn ancillas(bytes: &[u8]) -> usize
+    ensures { λ r. ⌜ r ≡ ancillas (now (bytes .entry)) ⌝ }
+{
+    logic::wide(logic::at(bytes, 0)) / 8 % 4
+}
+
+// All wires of a record, W = n + m.
+pub fn wires(bytes: &[u8]) -> usize
+    ensures { λ r. ⌜ r ≡ wires (now (bytes .entry)) ⌝ }
+    ensures { λ r. ⌜ r ≤ 10 ⌝ }
+{
+    let head = logic::wide(logic::at(bytes, 0));
+    head / 32 + head / 8 % 4
+}
+
+pub fn gate_limit(job: &[u8]) -> usize
+    ensures { λ r. ⌜ r ≡ gateLimit (now (job .entry)) ⌝ }
+{
+    logic::wide(logic::at(job, 1))
+}
+
+// 1 where a job leaves the layout free.
+pub fn free_layout(job: &[u8]) -> usize
+    ensures { λ r. ⌜ r ≡ freeLayout (now (job .entry)) ⌝ }
+{
+    logic::wide(logic::at(job, 0)) / 4 % 2
+}
+
+// The number in two bytes, high byte first.
+fn word(bytes: &[u8], i: usize) -> usize
+    requires { ⌜ i < 256 ⌝ }
+    ensures { λ r. ⌜ r ≡ word (now (bytes .entry)) i ⌝ }
+{
+    256 * logic::wide(logic::at(bytes, i)) + logic::wide(logic::at(bytes, i + 1))
+}
+
+pub fn cost_limit(job: &[u8]) -> usize
+    ensures { λ r. ⌜ r ≡ costLimit (now (job .entry)) ⌝ }
+{
+    word(job, 2)
+}
+
+pub fn depth_limit(job: &[u8]) -> usize
+    ensures { λ r. ⌜ r ≡ depthLimit (now (job .entry)) ⌝ }
+{
+    word(job, 4)
+}
+
+// The byte at `i`, or 0 where it is not asked for.
+fn fourth(four: bool, bytes: &[u8], i: usize) -> u8
+    ensures { λ r. ⌜ r ≡ pick four (getD (now (bytes .entry)) i 0) 0 ⌝ }
+{
+    if four { logic::at(bytes, i) } else { 0 }
+}
+
+fn weights_at(four: bool, bytes: &[u8], i: usize) -> Weights
+    requires { ⌜ i < 256 ⌝ }
+    ensures { λ r. ⌜ r ≡ weightsAt four (now (bytes .entry)) i ⌝ }
+{
+    Weights {
+        not: logic::at(bytes, i),
+        cnot: logic::at(bytes, i + 1),
+        toffoli: logic::at(bytes, i + 2),
+        cccnot: fourth(four, bytes, i + 3),
+    }
+}
+
+pub fn prices(job: &[u8]) -> Weights
+    ensures { λ r. ⌜ r ≡ prices (now (job .entry)) ⌝ }
+{
+    weights_at(longer(job), job, 6)
+}
+
+pub fn durations(job: &[u8]) -> Weights
+    ensures { λ r. ⌜ r ≡ durations (now (job .entry)) ⌝ }
+{
+    if longer(job) {
+        weights_at(true, job, 10)
+    } else {
+        weights_at(false, job, 9)
+    }
+}
+
+// The place of the first row byte.
+fn rows_from(job: &[u8]) -> usize
+    ensures { λ r. ⌜ r ≡ pick (longer (now (job .entry))) 14 12 ⌝ }
+{
+    if longer(job) { 14 } else { 12 }
+}
+
+// The row bytes of a job.
+pub fn table(job: &[u8]) -> &[u8]
+    ensures { λ r. ⌜ now r ≡ rows (now (job .entry)) ⌝ }
+{
+    let from = rows_from(job);
+    if from <= job.len() {
+        &job[from..]
+    } else {
+        &job[..0]
+    }
+}
+
+// The gate bytes of a circuit.
+pub fn gate_list(c: &[u8]) -> &[u8]
+    ensures { λ r. ⌜ now r ≡ gates (now (c .entry)) ⌝ }
+{
+    if 3 <= c.len() { &c[3..] } else { &c[..0] }
+}
+
+// Whether a circuit carries the mark of a longer job's answer.
+pub fn marked(c: &[u8]) -> bool
+    ensures { λ r. ⌜ r ≡ marked (now (c .entry)) ⌝ }
+{
+    logic::at(c, 0) % 2 == 1
+}
+
+// The greatest number of controls that a circuit's gates may have.
+pub fn controls_of(c: &[u8]) -> u32
+    ensures { λ r. ⌜ r ≡ controlsOf (now (c .entry)) ⌝ }
+{
+    if marked(c) { 3 } else { 2 }
+}
+
+pub fn layout_of(c: &[u8]) -> u8
+    ensures { λ r. ⌜ r ≡ layoutOf (now (c .entry)) ⌝ }
+{
+    logic::at(c, 1)
+}
+
+pub fn count_of(c: &[u8]) -> usize
+    ensures { λ r. ⌜ r ≡ countOf (now (c .entry)) ⌝ }
+{
+    logic::wide(logic::at(c, 2))
+}

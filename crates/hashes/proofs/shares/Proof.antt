@@ -1,0 +1,19 @@
+use mathlib.Core.Path.{_≡_}
+use mathlib.Core.List.{[], _∷_}
+use borrow.Author.Needs.{needs}
+use Rattle.hashes.specs.Reach.{shareAt, sharesOf}
+use Rattle.hashes.proofs.shares.Statement.{statement}
+use Rattle.hashes.proofs.shares.Tie as tie
+
+returns : tie.Need-returns
+unfolding sharesOf shareAt
+returns c = λ i.
+    c .before .before .before .before .share .ensures i
+    ∷ c .before .before .before .share2 .ensures i
+    ∷ c .before .before .share3 .ensures i
+    ∷ c .before .share4 .ensures i
+    ∷ c .share5 .ensures i
+    ∷ []
+
+pub shares-spec : {M : Type 1} → statement M
+shares-spec = tie.close (tie.spec (λ c. search needs) (λ c. search needs) (λ c κs. search needs) (λ c. search needs) (λ c. search needs) (λ c κs. search needs) (λ c. search needs) (λ c. search needs) (λ c κs. search needs) (λ c. search needs) (λ c. search needs) (λ c κs. search needs) (λ c. search needs) (λ c. search needs) (λ c κs. search needs) returns)

@@ -1,0 +1,10 @@
+use borrow.Author.Needs.{needs}
+use Rattle.pieces.proofs.Pieces.{one}
+use Rattle.pieces.proofs.put.Statement.{statement}
+use Rattle.pieces.proofs.put.Tie as tie
+
+returns : tie.Need-returns
+returns c = one _ _ _
+
+pub put-spec : {M : Type 1} → statement M
+put-spec = tie.close (tie.spec (λ c. search needs) (λ c. search needs) (λ c. search needs) returns)

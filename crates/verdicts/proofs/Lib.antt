@@ -1,0 +1,3 @@
+pub mod Rooms
+pub mod Stops
+pub mod Ways

@@ -1,7 +1,7 @@
 -- The list of all choices by prefix: what a loop over the gates has passed, and which choices are in the list.
-use mathlib.Core.Path.{_≡_, refl, sym}
+use mathlib.Core.Path.{_≡_, refl, sym, ap}
 use mathlib.Core.Bool.{Bool}
-use mathlib.Core.List.{List, [], _∷_, _++_, flatMap, append-assoc, append-nil, List·Memᴰ, List·Memᴰ·not-nil, List·Memᴰ·append-cases, Memᴰ·append-left, Memᴰ·append-right}
+use mathlib.Core.List.{List, [], _∷_, _++_, map, flatMap, append-assoc, append-nil, List·Memᴰ, List·Memᴰ·not-nil, List·Memᴰ·eq-of-singleton, List·Memᴰ·append-cases, Memᴰ·append-left, Memᴰ·append-right, Memᴰ·map, Memᴰ·of-map}
 use mathlib.Core.Option.{Option}
 use mathlib.Core.Logic.{_⊎_, ⊎-elim}
 use Prim.Native.Nat.{ℕ, zero, suc, _+_, _-_, _<_, _≤_}
@@ -11,8 +11,8 @@ use native.Mathlib.Omega.{arith}
 use lib.ListN.{length, take, getD}
 use lib.Seq.{take-suc, take-length}
 use Rattle.logic.specs.Lists.{Among}
-use Rattle.logic.proofs.Members.{among-nil, among-cons, among-tail}
-use Rattle.choice.specs.Choices.{Choice, improve, under, below}
+use Rattle.logic.proofs.Members.{among-nil, among-cons, among-head, among-tail}
+use Rattle.choice.specs.Choices.{Choice, improve, under, below, lists}
 use Rattle.choice.proofs.First.{improve-append}
 
 module _ {A B : Type 0} (f : A → List B) where
@@ -96,3 +96,20 @@ under-has here gates l (suc k) a (g ∷ e) w n m =
     (λ (h : ℕ). under here gates (l ++ (h ∷ [])) k)
     (w g (List·Memᴰ.List·Memᴰ·head refl))
     (under-has here gates (l ++ (g ∷ [])) k a e (among-tail w) (omega arith) (rw append-assoc m)))
+
+-- the lists of k gates are those of that length
+pub lists-is : (gates : List ℕ) (k : ℕ) (l : List ℕ) → List·Memᴰ l (lists gates k) → Among gates l × (length l ≡ k)
+unfolding lists
+lists-is gates zero l m = rw (List·Memᴰ·eq-of-singleton m) (among-nil, refl)
+lists-is gates (suc k) l m =
+    let f = flatMap-is (λ (g : ℕ). map (λ (t : List ℕ). g ∷ t) (lists gates k)) l gates m in
+    let t = Memᴰ·of-map (λ (t : List ℕ). f .0 ∷ t) (lists gates k) (f .1 .1) in
+    let r = lists-is gates k (t .0) (t .1) in
+    rw (← t .2) (among-cons (f .1 .0) (r .0), ap suc (r .1))
+
+pub lists-has : (gates l : List ℕ) → Among gates l → List·Memᴰ l (lists gates (length l))
+unfolding lists
+lists-has gates [] a = List·Memᴰ.List·Memᴰ·head refl
+lists-has gates (g ∷ l) a =
+    flatMap-has (λ (g : ℕ). map (λ (t : List ℕ). g ∷ t) (lists gates (length l))) (among-head a)
+    (Memᴰ·map (λ (t : List ℕ). g ∷ t) (lists-has gates l (among-tail a)))

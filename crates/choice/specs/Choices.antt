@@ -1,6 +1,6 @@
--- Which choice comes first: the order of document 01, the first good choice of a list, and the list of all choices by prefix.
+-- Which choice comes first: the order of document 01, the first good choice of a list, the list of all choices by prefix, and gate lists by length.
 use mathlib.Core.Bool.{Bool, true, false}
-use mathlib.Core.List.{List, [], _∷_, _++_, flatMap}
+use mathlib.Core.List.{List, [], _∷_, _++_, map, flatMap}
 use mathlib.Core.Option.{Option, none, some}
 use Prim.Native.Nat.{ℕ, zero, suc}
 use lib.Dec.{ltb}
@@ -52,3 +52,8 @@ under here gates l (suc k) = here l ++ flatMap (λ (g : ℕ). under here gates (
 -- the part of them that goes on by one of the first i gates, and then by at most k more
 abbrev pub below : (List ℕ → List Choice) → List ℕ → List ℕ → ℕ → ℕ → List Choice
 below here gates l k i = flatMap (λ (g : ℕ). under here gates (l ++ (g ∷ [])) k) (take i gates)
+
+-- every list of k of the gates: all that begin with the first gate, then all that begin with the second, and so on
+unfoldable pub lists : List ℕ → ℕ → List (List ℕ)
+lists gates zero = [] ∷ []
+lists gates (suc k) = flatMap (λ (g : ℕ). map (λ (l : List ℕ). g ∷ l) (lists gates k)) gates

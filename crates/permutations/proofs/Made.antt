@@ -2,7 +2,7 @@
 use mathlib.Core.Path.{_≡_, refl, sym, ap, _∙_, subst}
 use mathlib.Core.Bool.{Bool, true, false≢true}
 use mathlib.Core.Logic.{⊎-elim}
-use mathlib.Core.List.{List, [], _∷_, _++_, map, List·Memᴰ, List·Memᴰ·cases-cons, List·Memᴰ·not-nil, Memᴰ·map, Memᴰ·of-map, List·Memᴰ·eq-of-singleton, Memᴰ·append-left, Memᴰ·append-right}
+use mathlib.Core.List.{List, [], _∷_, _++_, map, List·Memᴰ, List·Memᴰ·cases-cons, List·Memᴰ·not-nil, Memᴰ·append-left, Memᴰ·append-right}
 use Prim.Native.Nat.{ℕ, zero, suc, _+_, _<_}
 use native.Mathlib.Omega.{arith}
 use borrow.Author.Tests.{eq-eqb, eqb-true}
@@ -13,14 +13,15 @@ use Rattle.logic.proofs.Chain.{either-cases, either-first, either-second}
 use Rattle.logic.proofs.Below.{below}
 use Rattle.logic.proofs.Counts.{all-below}
 use Rattle.logic.proofs.Fold.{along-append}
-use Rattle.logic.proofs.Members.{member-at, among-nil, among-cons, among-head, among-tail, among-append}
+use Rattle.logic.proofs.Members.{member-at, among-nil, among-cons, among-append}
 use Rattle.gate.specs.Gates.{step}
 use Rattle.gate.proofs.Tables.{among-lawful}
 use Rattle.circuit.specs.Run.{forwards}
 use Rattle.circuit.proofs.Reversal.{stays}
-use Rattle.choice.proofs.Enumeration.{flatMap-has, flatMap-is}
+use Rattle.choice.specs.Choices.{lists}
+use Rattle.choice.proofs.Enumeration.{lists-is, lists-has}
 use Rattle.permutations.specs.Orders.{eight, Arranges}
-use Rattle.permutations.specs.Sizes.{twelve, lists, Makes, made, someOf, madeBy}
+use Rattle.permutations.specs.Sizes.{twelve, Makes, made, someOf, madeBy}
 use Rattle.permutations.proofs.Lists.{map-at}
 use Rattle.permutations.proofs.Masks.{eight-lt, step-back}
 
@@ -43,28 +44,6 @@ module _ {A : Type 0} (f : A → Bool) where
       (λ (n : List·Memᴰ a l). either-second (f x) (someOf f l) (some-of-has a l n h))
       (List·Memᴰ·cases-cons m)
 
--- the lists of k gates are all lists of k of the twelve
-abbrev Gates : ℕ → List ℕ → Type 0
-Gates k l = Among twelve l × (length l ≡ k)
-
-lists-is : (k : ℕ) (l : List ℕ) → List·Memᴰ l (lists k) → Gates k l
-unfolding lists
-lists-is zero l m = subst (Gates 0) (sym (List·Memᴰ·eq-of-singleton m)) (among-nil, refl)
-lists-is (suc k) l m =
-    let r = flatMap-is (λ (g : ℕ). map (λ (t : List ℕ). g ∷ t) (lists k)) l twelve m in
-    let p = Memᴰ·of-map (λ (t : List ℕ). r .0 ∷ t) (lists k) (r .1 .1) in
-    let i = lists-is k (p .0) (p .1) in
-    subst (Gates (suc k)) (p .2) (among-cons (r .1 .0) (i .0), ap suc (i .1))
-
-lists-has : (k : ℕ) (l : List ℕ) → Gates k l → List·Memᴰ l (lists k)
-unfolding lists
-lists-has zero [] p = List·Memᴰ.List·Memᴰ·head refl
-lists-has zero (g ∷ l) p = absurd (let e = p .1 in omega arith)
-lists-has (suc k) [] p = absurd (let e = p .1 in omega arith)
-lists-has (suc k) (g ∷ l) p =
-    flatMap-has (λ (g : ℕ). map (λ (t : List ℕ). g ∷ t) (lists k)) (among-head (p .0))
-    (Memᴰ·map (λ (t : List ℕ). g ∷ t) (lists-has k l (among-tail (p .0), let e = p .1 in omega arith)))
-
 abbrev agreesAt : List ℕ → List ℕ → ℕ → Bool
 agreesAt v l x = eqb (forwards l x) (getD v x 0)
 
@@ -72,14 +51,14 @@ agreesAt v l x = eqb (forwards l x) (getD v x 0)
 pub made-is : (v : List ℕ) (k : ℕ) → madeBy v k ≡ true → (l : List ℕ) × (Among twelve l × ((length l ≡ k) × Makes v l))
 unfolding madeBy made
 made-is v k h =
-    let r = some-of-is (made v) (lists k) h in
-    let p = lists-is k (r .0) (r .1 .0) in
+    let r = some-of-is (made v) (lists twelve k) h in
+    let p = lists-is twelve k (r .0) (r .1 .0) in
     (r .0, (p .0, (p .1, λ x hx. eqb-true (forwards (r .0) x) (getD v x 0) (below 8 (agreesAt v (r .0)) (r .1 .1) x hx))))
 
 pub made-has : (v l : List ℕ) → Among twelve l → Makes v l → madeBy v (length l) ≡ true
 unfolding madeBy made
 made-has v l a m =
-    some-of-has (made v) l (lists (length l)) (lists-has (length l) l (a, refl))
+    some-of-has (made v) l (lists twelve (length l)) (lists-has twelve l a)
     (all-below (agreesAt v l) 8 (λ x hx. eq-eqb (forwards l x) (getD v x 0) (m x hx)))
 
 -- a list that is not empty has a last element

@@ -1,23 +1,19 @@
 -- The least number of gates that make each permutation of three wires.
 use mathlib.Core.Path.{_≡_}
 use mathlib.Core.Bool.{Bool, false}
-use mathlib.Core.List.{List, [], _∷_, map, flatMap}
+use mathlib.Core.List.{List, [], _∷_, map}
 use Prim.Native.Nat.{ℕ, zero, suc, _<_}
 use lib.Dec.{ltb, eqb}
 use lib.ListN.{getD}
 use Rattle.logic.specs.Rules.{either, pick, allBelow}
 use Rattle.gate.specs.Gates.{gatesFor}
 use Rattle.circuit.specs.Run.{forwards}
+use Rattle.choice.specs.Choices.{lists}
 use Rattle.permutations.specs.Orders.{permutations, rankOf}
 
 -- the gates of three wires, of which there are twelve
 abbrev pub twelve : List ℕ
 twelve = gatesFor 2 3
-
--- every list of k gates
-unfoldable pub lists : ℕ → List (List ℕ)
-lists zero = [] ∷ []
-lists (suc k) = flatMap (λ (g : ℕ). map (λ (l : List ℕ). g ∷ l) (lists k)) twelve
 
 -- a list of gates takes each of the eight rows to its value: "plain placing and no ancilla"
 abbrev pub Makes : List ℕ → List ℕ → Type 0
@@ -34,7 +30,7 @@ someOf f (x ∷ xs) = either (f x) (someOf f xs)
 
 -- some list of k gates does so
 unfoldable pub madeBy : List ℕ → ℕ → Bool
-madeBy v k = someOf (made v) (lists k)
+madeBy v k = someOf (made v) (lists twelve k)
 
 -- the least number below n at which f holds, "or 255 where there is" none
 unfoldable pub leastBelow : ℕ → (ℕ → Bool) → ℕ

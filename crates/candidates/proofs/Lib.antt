@@ -1,0 +1,4 @@
+pub mod Digits
+pub mod Odometer
+pub mod Advancing
+pub mod Alone

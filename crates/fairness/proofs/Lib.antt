@@ -1,0 +1,4 @@
+pub mod Steps
+pub mod Ahead
+pub mod Promises
+pub mod Count

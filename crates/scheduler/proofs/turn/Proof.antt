@@ -1,0 +1,28 @@
+-- No slot working, or one that is served.
+use mathlib.Core.Path.{sym, ap, _∙_}
+use borrow.Author.Needs.{needs}
+use Rattle.scheduler.specs.Calls.{viewState, serviceAnswer}
+use Rattle.scheduler.proofs.Serving.{turn-idle, turn-served}
+use Rattle.scheduler.proofs.turn.Statement.{statement}
+use Rattle.scheduler.proofs.turn.Tie as tie
+
+returns : tie.Need-returns
+returns c =
+    let n = c .before .before in
+    let e = sym (ap serviceAnswer (c .enum-told .given .1)) ∙ n .next-working .ensures in
+    (e, turn-idle (viewState (n .before .args .slots)) e)
+
+returns-2 : tie.Need-returns-2
+returns-2 c =
+    let v = c .before in
+    let a = v .before in
+    let k = a .before .before in
+    let n = k .before .before in
+    let e = sym (ap serviceAnswer (k .service .given .1)) ∙ n .next-working .ensures in
+    (e, turn-served (viewState (n .before .args .slots)) (k .service .given .0 .0) _ _ _ e (a .entry-at .ensures) (v .serve .ensures) (c .with-entry .ensures))
+
+pub turn-spec : {M : Type 1} → statement M
+turn-spec =
+    tie.close
+    (tie.spec (λ c κs. search needs) (λ c. search needs) (λ c. search needs) (λ c κs. search needs) (λ c κs. search needs) (λ c κs. search needs)
+    returns returns-2)

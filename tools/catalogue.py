@@ -159,6 +159,9 @@ the tables say what. LIGHTER-R and DORCIS are tools whose counts 002 prints besi
 says that it takes the fewest gates first and then the least depth; but in its Table 2 every row without an ancilla has the depth that DORCIS
 has. The inverse is from a paper of Lin et al., whose count 002 prints too.
 
+An ancilla ends at 0 here, in every row of the table. 002 writes that ancillas are to be cleaned up, but the constraints it prints ask nothing of the
+ancilla's end, so that a count of its own with an ancilla can be lower than ours.
+
 The papers' depths are not compared. 003 counts layers of Toffolis only, and 002 defines its full depth by the parts of a Toffoli taken apart.
 
 ## Overview
@@ -343,6 +346,8 @@ def comparison(printed, entry):
     less = printed.count - answer.cost
     if less < 0:
         why = "so few gates do not realize this table" if printed.prices == GATES else f"at most {LIMIT} gates here"
+        if printed.m:
+            why += ", with the ancilla at 0 in the end"
         return str(answer.cost), f"higher by {-less}: {why}"
     return str(answer.cost), f"lower by {less}" if less else "equal"
 

@@ -3,9 +3,9 @@
 
 usage: forced.py FOLDER [RADIUS]
 
-Three numbers of crates/solver/src/lib.rt are changed, none of which a contract holds: how many gates are looked at with no filter (none), the
-radius of a filter (RADIUS, 2 where it is not given, and one less where at most three gates may come), and from how many gates on a wider one is
-filled. So the copy is proved like the program itself: `cd FOLDER; rt check main gazbolk`. Then
+Numbers of crates/prospects/src/lib.rt are changed, none of which a contract holds: how many gates are looked at with no filter (none), the radius
+of a filter (RADIUS, 2 where it is not given, and one less where at most three gates may come), and after how many gates the wider one takes its
+place (three; so it is also filled for costs that buy more). So the copy is proved like the program itself: `cd FOLDER; rt check main gazbolk`. Then
 
     bench/compare.py FOLDER/target/bin/main --count 5000
     bench/compare.py FOLDER/target/bin/gazbolk --libraries
@@ -19,7 +19,7 @@ CHANGES = [
     ("    if limit < 6 { limit } else { 6 }\n", "    if limit < 6 { 0 } else { 0 }\n"),
     ("        if most <= 10 { 4 } else { 5 }\n", "        if most <= 3 { LESS } else { RADIUS }\n"),
     ("        if most <= 8 { 3 } else { 4 }\n", "        if most <= 3 { LESS } else { RADIUS }\n"),
-    ("held.found && 10 <= held.len", "held.found && 1 <= held.len"),
+    ("    if count <= 32 {\n        return 10;\n    }\n    if from <= 8 { 8 } else { from }\n", "    if from <= 3 { 3 } else { from }\n"),
 ]
 
 
@@ -30,7 +30,7 @@ def main():
     os.makedirs(folder)
     shutil.copy(os.path.join(ROOT, "crates.txt"), folder)
     shutil.copytree(os.path.join(ROOT, "crates"), os.path.join(folder, "crates"))
-    path = os.path.join(folder, "crates", "solver", "src", "lib.rt")
+    path = os.path.join(folder, "crates", "prospects", "src", "lib.rt")
     with open(path, encoding="utf-8") as file:
         text = file.read()
     for old, new in CHANGES:

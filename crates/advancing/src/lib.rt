@@ -9,7 +9,7 @@ ghost use Prim.Native.Nat.{ℕ, _+_, _≤_, _<_};
 ghost use lib.ListN.{length};
 ghost use Rattle.logic.specs.Lists.{Among};
 ghost use Rattle.gate.specs.Gates.{targetOf};
-ghost use Rattle.circuit.specs.Inner.{columnsAfter};
+ghost use Rattle.running.specs.Inner.{columnsAfter};
 ghost use Rattle.layouts.specs.Layouts.{Width};
 ghost use Rattle.columns.specs.Wanted.{startColumns};
 ghost use Rattle.problem.specs.Problems.{Problem};

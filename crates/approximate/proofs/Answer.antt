@@ -16,8 +16,8 @@ use Rattle.choice.specs.Inner.{choice, view}
 use Rattle.choice.proofs.Held.{held-some, held-none}
 use Rattle.misses.specs.Misses.{missedIn}
 use Rattle.misses.proofs.Fewest.{closest-misses}
-use Rattle.search.specs.Outcomes.{ownSet, problemOf, recordOf, Found, reported, searchCode}
-use Rattle.search.specs.Inner.{toldOf}
+use Rattle.outcomes.specs.Outcomes.{ownSet, problemOf, recordOf, Found, reported, searchCode}
+use Rattle.outcomes.specs.Inner.{toldOf}
 use Rattle.approximate.specs.Calls.{fewestFor, closestFor, Close, closeOf, closestOf, circuitIn, Told, withMisses, told}
 
 module _ (job : List ℕ) (room : ℕ) where

@@ -7,11 +7,12 @@ use Rattle.logic.specs.Lists.{allOf, Among}
 use Rattle.logic.proofs.Members.{among-all}
 use Rattle.gate.specs.Gates.{lawful}
 use Rattle.gate.proofs.Widen.{widen}
-use Rattle.circuit.specs.Inner.{columnsAfter}
+use Rattle.running.specs.Inner.{columnsAfter}
 use Rattle.table.specs.Rows.{realizes}
 use Rattle.record.specs.JobRules.{jobCode}
 use Rattle.fields.specs.Jobs.{longer, mostControls, dataWires, wires, rows}
-use Rattle.record.proofs.Kept.{sound-job, wires-within, two-or-three}
+use Rattle.record.proofs.Kept.{sound-job, wires-within}
+use Rattle.fields.proofs.Widths.{two-or-three}
 use Rattle.columns.specs.Wanted.{wantedOf, startColumns}
 use Rattle.problem.specs.Problems.{Problem, firstGood}
 use Rattle.misses.specs.Misses.{approximates, missingAtMost}
@@ -20,9 +21,9 @@ use Rattle.misses.proofs.Rows.{none-realizes}
 use Rattle.misses.proofs.Counted.{columned}
 use Rattle.misses.proofs.Fewest.{same-first}
 use Rattle.nearing.specs.Loose.{loosened}
-use Rattle.search.specs.Outcomes.{ownSet, problemOver, problemOf}
+use Rattle.outcomes.specs.Outcomes.{ownSet, problemOver, problemOf}
 use Rattle.search.specs.Inner.{taskOf}
-use Rattle.search.proofs.Facts.{own-kept}
+use Rattle.outcomes.proofs.Facts.{own-kept}
 use Rattle.search.proofs.Posed.{rows-few}
 
 -- the problem of a job for which up to k wanted bits may be missed

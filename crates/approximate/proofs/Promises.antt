@@ -32,8 +32,8 @@ use Rattle.problem.proofs.Listed.{unlisted, within-joined}
 use Rattle.misses.specs.Misses.{missedBits, missedIn, tidily, approximates, missingAtMost, missingAny, fewestMisses, closestChoice}
 use Rattle.misses.proofs.Rows.{most-missed}
 use Rattle.misses.proofs.Fewest.{none-fewer, fewest-found, closest-misses, closest-some}
-use Rattle.search.specs.Outcomes.{ownSet, problemOver, problemOf, recordOf, Found, foundOf, outcomeOf, searchCode, searchOver, searchOf}
-use Rattle.search.proofs.Facts.{code-parts, found-code}
+use Rattle.outcomes.specs.Outcomes.{ownSet, problemOver, problemOf, recordOf, Found, foundOf, outcomeOf, searchCode, searchOver, searchOf}
+use Rattle.outcomes.proofs.Facts.{code-parts, found-code}
 use Rattle.search.proofs.Posed.{rows-few}
 use Rattle.approximate.specs.Calls.{fewestFor, closestFor, Close, closeOf, closestOf}
 use Rattle.approximate.specs.Demand.{Allowed, Closest}

@@ -7,7 +7,7 @@ use lib.ListN.{length, take, drop}
 use lib.Seq.{take-at}
 use Rattle.logic.specs.Answers.{Answer, refused, answered}
 use Rattle.measures.specs.declared.Measures.{Measures}
-use Rattle.search.specs.Outcomes.{Reported, written}
+use Rattle.outcomes.specs.Outcomes.{Reported, written}
 use Rattle.approximate.specs.declared.Nearest.{Nearest}
 use Rattle.approximate.specs.declared.Nearest.the-variants.{Refused, Found}
 use Rattle.approximate.specs.Calls.{Close, Told, circuitIn, told, nearestAnswer}

@@ -9,7 +9,7 @@ use Rattle.logic.specs.Answers.{Answer, refused, answered}
 use Rattle.fields.specs.Jobs.{dataWires, rows}
 use Rattle.choice.specs.Choices.{Choice}
 use Rattle.misses.specs.Misses.{missedIn, fewestMisses, closestChoice}
-use Rattle.search.specs.Outcomes.{ownSet, problemOf, Found, foundOf, Reported, reported, searchCode}
+use Rattle.outcomes.specs.Outcomes.{ownSet, problemOf, Found, foundOf, Reported, reported, searchCode}
 use Rattle.approximate.specs.declared.Nearest.{Nearest}
 
 -- "the fewest wanted bits" that a circuit for the job misses, and the first that misses so few

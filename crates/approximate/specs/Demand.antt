@@ -9,7 +9,7 @@ use Rattle.choice.specs.Choices.{before}
 use Rattle.problem.specs.Problems.{choiceOf}
 use Rattle.problem.specs.Demand.{Solves}
 use Rattle.misses.specs.Misses.{missedBits, missingAny}
-use Rattle.search.specs.Outcomes.{problemOf}
+use Rattle.outcomes.specs.Outcomes.{problemOf}
 
 -- "within all limits, with the job's n and m, an allowed placing and ancilla clean", whatever wanted bits it misses
 abbrev pub Allowed : List ℕ → List ℕ → ℕ → Type 0

@@ -1,7 +1,7 @@
 // The public call for the closest circuit: the one that misses the fewest wanted bits, where none within the limits realizes the table.
 use choice::Best;
 use measures::Measures;
-use search::Searched;
+use outcomes::Searched;
 ghost use mathlib.Core.Path.{_≡_};
 ghost use Prim.Native.Nat.{_≤_};
 ghost use lib.ListN.{length};
@@ -10,8 +10,8 @@ ghost use Rattle.fields.specs.Jobs.{dataWires, rows};
 ghost use Rattle.choice.specs.Inner.{view};
 ghost use Rattle.problem.specs.Problems.{firstGood};
 ghost use Rattle.misses.specs.Misses.{missingAtMost};
-ghost use Rattle.search.specs.Outcomes.{problemOf, written, searchedAnswer};
-ghost use Rattle.search.specs.Outcomes as outcomes;
+ghost use Rattle.outcomes.specs.Outcomes.{problemOf, written, searchedAnswer};
+ghost use Rattle.outcomes.specs.Outcomes as outcomes;
 ghost use Rattle.approximate.specs.Calls.{fewestFor, closestFor, closestOf, circuitIn, withMisses, told, nearestAnswer, sizeIn};
 
 // What the call answers: a refusal's number, or the record's length and measures, and how many wanted bits are missed.
@@ -32,7 +32,7 @@ fn at_most(job: &[u8], k: usize) -> Best
     ensures { λ r. ⌜ view r ≡ firstGood (missingAtMost (dataWires (now (job .entry))) (rows (now (job .entry))) k (problemOf (now (job .entry)))) ⌝ }
     ensures { λ r. ⌜ r .len ≤ 12 ⌝ }
 {
-    let own = search::own_tables(job);
+    let own = outcomes::own_tables(job);
     let count = own.count;
     let gates = own.gates;
     let prices = own.prices;
@@ -91,6 +91,6 @@ pub fn closest(job: &[u8], answer: &mut [u8]) -> Nearest
     let near = approach(job);
     let best = near.best;
     let path = best.path;
-    let measures = search::measures_of(job, path, best.len);
-    with_misses(search::tell(job, best, measures, answer), near.misses)
+    let measures = outcomes::measures_of(job, path, best.len);
+    with_misses(outcomes::tell(job, best, measures, answer), near.misses)
 }

@@ -9,9 +9,9 @@ use lib.Dec.{leb}
 use lib.ListN.{length, getD, take, drop, length-append, length-drop}
 use lib.Seq.{take-at, drop-at, drop-drop, drop-nil, length-take-le}
 use Rattle.logic.specs.Answers.{Answer, refused, answered}
-use Rattle.record.proofs.Long.{long-circuit}
-use Rattle.search.specs.Outcomes.{Found, searchOf, written}
-use Rattle.search.proofs.Verified.{found-circuit}
+use Rattle.circuit_rules.proofs.Sound.{long-circuit}
+use Rattle.outcomes.specs.Outcomes.{Found, searchOf, written}
+use Rattle.outcomes.proofs.Verified.{found-circuit}
 use Rattle.batch.specs.Batches.{aloneOf, statusOf, cellsAfter, statusesAfter, cellAt}
 
 -- a circuit that is found has at most fifteen bytes

@@ -7,10 +7,10 @@ use borrow.Rule.Slice.PartMut.{putMid, post-is}
 use lib.ListN.{length, take, drop, set}
 use lib.Seq.{take-at, drop-at, drop-length, length-take-le}
 use Rattle.logic.specs.Answers.{Answer, refused, answered}
-use Rattle.search.specs.declared.Searched.{Searched}
-use Rattle.search.specs.declared.Searched.the-variants.{Refused, Found}
-use Rattle.search.specs.Outcomes as outcomes
-use Rattle.search.specs.Outcomes.{reported, written, searchedAnswer}
+use Rattle.outcomes.specs.declared.Searched.{Searched}
+use Rattle.outcomes.specs.declared.Searched.the-variants.{Refused, Found}
+use Rattle.outcomes.specs.Outcomes as outcomes
+use Rattle.outcomes.specs.Outcomes.{reported, written, searchedAnswer}
 use Rattle.cutting.specs.Records.{recordSize, records}
 use Rattle.batch.specs.Batches.{aloneOf, statusOf, cellsAfter, statusesAfter}
 use Rattle.cutting.proofs.Cutting.{rest-is, one-here}

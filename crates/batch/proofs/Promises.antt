@@ -16,7 +16,7 @@ use Rattle.logic.specs.Answers.{Answer, refused, answered}
 use Rattle.logic.proofs.Answers.{answered-is, answered-with}
 use Rattle.logic.proofs.Chain.{rule-kept}
 use Rattle.fields.specs.Jobs.{dataWires, longer}
-use Rattle.search.specs.Outcomes.{Found, searchOf, written}
+use Rattle.outcomes.specs.Outcomes.{Found, searchOf, written}
 use Rattle.cutting.specs.Records.{sizeSaid, recordSize, records, recordsOf, countOf, jobAt, allCut}
 use Rattle.batch.specs.Batches.{roomOk, batchCode, batchOf, statusOf, cellsAfter, statusesAfter, answersLeft, statusesLeft, cellAt}
 use Rattle.batch.proofs.Cells.{cells-at, cells-beyond, status-at, statuses-beyond}

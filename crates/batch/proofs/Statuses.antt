@@ -12,9 +12,9 @@ use Rattle.logic.specs.Answers.{refused}
 use Rattle.logic.proofs.Chain.{rule-never}
 use Rattle.record.specs.JobRules.{jobLengthOk, sizeOk, headOk, limitOk, durationsOk, rowsOk, jobCode}
 use Rattle.codes.specs.Codes.{searchCode}
-use Rattle.search.specs.Outcomes.{ownSet, searchOf}
-use Rattle.search.proofs.Facts.{answers}
-use Rattle.search.proofs.Answer.{by-code}
+use Rattle.outcomes.specs.Outcomes.{ownSet, searchOf}
+use Rattle.outcomes.proofs.Facts.{answers}
+use Rattle.outcomes.proofs.Answer.{by-code}
 use Rattle.batch.specs.Batches.{statusOf}
 use Rattle.cutting.proofs.Joined.{Shaped}
 

@@ -6,7 +6,7 @@ use lib.Dec.{leb, eqb}
 use lib.ListN.{length, take, drop}
 use Rattle.logic.specs.Rules.{both, pick, rule}
 use Rattle.logic.specs.Answers.{Answer, refused, answered, answerOf}
-use Rattle.search.specs.Outcomes.{Found, searchOf, written}
+use Rattle.outcomes.specs.Outcomes.{Found, searchOf, written}
 use Rattle.batch.specs.declared.Batched.{Batched}
 use Rattle.cutting.specs.Records.{recordsOf, countOf, allCut}
 

@@ -1,10 +1,10 @@
 // A batch of jobs in one call: each is searched for as if it came alone, into a cell and a status byte of its own.
-use search::Searched;
+use outcomes::Searched;
 ghost use mathlib.Core.Path.{_≡_};
 ghost use Prim.Native.Nat.{_*_, _≤_};
 ghost use mathlib.Core.List.{_++_};
 ghost use lib.ListN.{length, take, drop, set};
-ghost use Rattle.search.specs.Outcomes.{written};
+ghost use Rattle.outcomes.specs.Outcomes.{written};
 ghost use Rattle.cutting.specs.Records.{records};
 ghost use Rattle.batch.specs.Batches.{batchCode, batchOf, aloneOf, statusOf, cellsAfter, statusesAfter, answersLeft, statusesLeft, batchedAnswer};
 

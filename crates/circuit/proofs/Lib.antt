@@ -1,4 +1,3 @@
 pub mod Times
-pub mod Reversal
 pub mod Prefix
 pub mod Gatebound

@@ -1,10 +1,9 @@
-// Gate lists of any length: running them both ways, their cost, and the ready times of their wires.
+// Gate lists of any length: their cost, and the ready times of their wires.
 use gate::Gate;
 use gate::Kind;
 ghost use mathlib.Core.Path.{_≡_};
 ghost use Prim.Native.Nat.{ℕ, _≤_, _+_, max};
 ghost use lib.ListN.{length, getD};
-ghost use Rattle.circuit.specs.Run.{forwards, backwards};
 ghost use Rattle.circuit.specs.Measure.{weightFor, weightOf, cost};
 ghost use Rattle.circuit.specs.Measure.{controlsReady, holdControls, hold, readyTimes, greatest};
 
@@ -14,32 +13,6 @@ pub struct Weights {
     pub cnot: u8,
     pub toffoli: u8,
     pub cccnot: u8,
-}
-
-// The value of the wires after the list, first gate first.
-pub fn forwards(gates: &[u8], value: usize) -> usize
-    ensures { λ r. ⌜ r ≡ forwards (now (gates .entry)) value ⌝ }
-{
-    let mut v = value;
-    let mut k = 0;
-    while k < gates.len() {
-        v = steps::step(gates[k], v);
-        k += 1;
-    }
-    v
-}
-
-// The value of the wires after the list, last gate first.
-pub fn backwards(gates: &[u8], value: usize) -> usize
-    ensures { λ r. ⌜ r ≡ backwards (now (gates .entry)) value ⌝ }
-{
-    let mut u = value;
-    let mut i = gates.len();
-    while 0 < i {
-        i -= 1;
-        u = steps::step(gates[i], u);
-    }
-    u
 }
 
 fn weight_for(weights: Weights, kind: Kind) -> u8

@@ -7,7 +7,7 @@ use lib.ListN.{length, length-append}
 use Rattle.logic.proofs.Prefixes.{told-by}
 use Rattle.record.proofs.Long.{long-job}
 use Rattle.measures.specs.declared.Measures.{Measures}
-use Rattle.search.specs.Outcomes.{searchCode}
+use Rattle.outcomes.specs.Outcomes.{searchCode}
 use Rattle.pieces.proofs.Pieces.{decimal-short, found-short}
 use Rattle.report.specs.Report.{refusedText}
 use Rattle.approximate.specs.Calls.{Close, closestOf}

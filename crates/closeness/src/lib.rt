@@ -36,7 +36,7 @@ fn put_close(k: usize, m: Measures, circuit: &[u8], out: &mut [u8]) -> usize
     ensures { λ _. ⌜ now (out .exit) ≡ inFront (bothLines k m (now (circuit .entry))) (now (out .entry)) ⌝ }
 {
     let a = put_misses(out, k);
-    compare::put_found(out, a, m, circuit)
+    differences::put_found(out, a, m, circuit)
 }
 
 // Searches for the closest circuit of a job and writes what is printed to the start of `out`; returns its length.

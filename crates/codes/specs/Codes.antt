@@ -6,7 +6,7 @@ use lib.Dec.{ltb, leb, eqb}
 use Rattle.logic.specs.Rules.{both, implies, rule, andThen}
 use Rattle.record.specs.JobRules.{jobCode}
 use Rattle.fields.specs.Jobs.{longer, dataWires, ancillas, wires}
-use Rattle.record.specs.CircuitRules.{circuitCode}
+use Rattle.circuit_rules.specs.CircuitRules.{circuitCode}
 use Rattle.fields.specs.Circuits.{marked}
 
 -- the circuit's checks, then "is the value below 2^W? If not, 20."

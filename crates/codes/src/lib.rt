@@ -6,7 +6,7 @@ ghost use Rattle.codes.specs.Codes.{runCode, sameWires, markFits, circui
 pub fn run_code(c: &[u8], value: u8) -> u8
     ensures { λ r. ⌜ r ≡ runCode (now (c .entry)) value ⌝ }
 {
-    let code = record::circuit_code(c);
+    let code = circuit_rules::circuit_code(c);
     let w = fields::wires(c);
     logic::and_then(code, logic::rule(logic::wide(value) < (1 << w), 20, 0))
 }
@@ -31,7 +31,7 @@ fn mark_fits(job: &[u8], c: &[u8]) -> bool
 pub fn circuit_code_for(job: &[u8], c: &[u8]) -> u8
     ensures { λ r. ⌜ r ≡ circuitCodeFor (now (job .entry)) (now (c .entry)) ⌝ }
 {
-    let code = record::circuit_code(c);
+    let code = circuit_rules::circuit_code(c);
     let same = same_wires(job, c);
     let fits = mark_fits(job, c);
     let rest = logic::rule(same, 12, logic::rule(fits, 28, 0));

@@ -1,26 +1,14 @@
 -- What is printed where two jobs are compared.
 use mathlib.Core.Path.{_≡_}
-use mathlib.Core.List.{List, [], _++_}
+use mathlib.Core.List.{List, _++_}
 use Prim.Native.Nat.{ℕ}
-use lib.Dec.{eqb}
-use lib.IntN.{ℤ, pos, natAbs}
+use lib.IntN.{ℤ}
 use lib.ListN.{take}
-use lib.Signed.{ltZ}
-use Rattle.logic.specs.Rules.{pick}
 use Rattle.logic.specs.Answers.{Answer, refused, answered}
-use Rattle.logic.specs.Words.{bytes}
-use Rattle.pieces.specs.Text.{decimal, lineFeed}
-use Rattle.line.specs.Lines.{lineOf}
+use Rattle.lines.specs.Lines.{lineOf}
 use Rattle.report.specs.Report.{refusedText}
 use Rattle.sensitivity.specs.Calls.{priceChange}
-
--- `-` where the least cost falls, `+` where it rises, nothing where it stays
-unfoldable pub sign : ℤ → List ℕ
-sign d = pick (ltZ d (pos 0)) (bytes "-") (pick (eqb (natAbs d) 0) [] (bytes "+"))
-
--- `by DIFFERENCE`
-unfoldable pub changeLine : ℤ → List ℕ
-changeLine d = bytes "by " ++ (sign d ++ (decimal (natAbs d) ++ lineFeed))
+use Rattle.differences.specs.Differences.{changeLine}
 
 -- the difference, and the line that `main` prints for each job; or a refusal and what it means
 abbrev pub printed : Answer ℤ → List ℕ → List ℕ → List ℕ

@@ -1,17 +1,11 @@
 -- What only private contracts name: the same text by what each search found.
-use mathlib.Core.List.{List, _++_}
+use mathlib.Core.List.{List}
 use Prim.Native.Nat.{ℕ}
 use Rattle.logic.specs.Answers.{Answer, refused, answered}
 use Rattle.measures.specs.declared.Measures.{Measures}
-use Rattle.search.specs.Outcomes.{Found}
-use Rattle.pieces.specs.Text.{foundLine}
+use Rattle.outcomes.specs.Outcomes.{Found}
 use Rattle.report.specs.Report.{refusedText}
-use Rattle.alike.specs.Alike.{costDifference}
-use Rattle.compare.specs.Compare.{changeLine}
-
--- of two circuits
-unfoldable pub bothLines : Measures → List ℕ → Measures → List ℕ → List ℕ
-bothLines m circuit k other = changeLine (costDifference (m .cost) (k .cost)) ++ (foundLine m circuit ++ foundLine k other)
+use Rattle.differences.specs.Differences.{bothLines}
 
 -- of the old job's circuit and what the search for the new one gave
 abbrev pub afterOld : Measures → List ℕ → Answer Found → List ℕ

@@ -2,10 +2,9 @@
 use mathlib.Core.Path.{_≡_, sym, _∙_, subst}
 use mathlib.Core.Bool.{true}
 use mathlib.Core.List.{List, [], List·Memᴰ, Memᴰ·cast}
-use Prim.Native.Nat.{ℕ, _+_, _≤_, _<_}
+use Prim.Native.Nat.{ℕ, _≤_, _<_}
 use native.Mathlib.Omega.{arith}
-use lib.ListN.{length, getD}
-use Rattle.logic.specs.Rules.{pick}
+use lib.ListN.{length}
 use Rattle.logic.proofs.Members.{place-of, member-at}
 use Rattle.choice.specs.declared.Best.{Best}
 use Rattle.choice.specs.Choices.{Choice}
@@ -14,8 +13,7 @@ use Rattle.problem.specs.Problems.{Problem, choiceOf, choices, good}
 use Rattle.problem.specs.Inner.{Past, Dearer, Shortest}
 use Rattle.problem.proofs.Limits.{past-below, found-cost}
 use Rattle.problem.proofs.Listed.{listed, unlisted, gates-are, cost-is, within-parts, within-joined}
-use Rattle.budget.specs.Afford.{CostsAtLeast, reach}
-use Rattle.budget.specs.Heavy.{heavy}
+use Rattle.budget.specs.Afford.{reach}
 use Rattle.budget.specs.Sums.{Marked}
 use Rattle.budget.proofs.Afford.{reach-most}
 use Rattle.budget.proofs.Sums.{sums-marked}
@@ -68,14 +66,6 @@ module _ (P : Problem) (task : Task) (gates prices durations : List ℕ) (posed 
   priced-in long g m =
       let q = place-of g gates (rw (posed .listed) m) in
       Memᴰ·cast (sym (posed .priced (q .0) (q .1 .0) ∙ rw (q .1 .1))) (member-at prices (q .0) (rw long (q .1 .0)))
-
-  -- what each gate costs at least, by its place in the slices
-  pub costs-of : length prices ≡ length gates → (low extra : ℕ)
-      → ((i : ℕ) → i < length prices → low + pick (heavy (getD gates i 0)) extra 0 ≤ getD prices i 0) → CostsAtLeast low extra (P .gates) (P .price)
-  costs-of long low extra h g m =
-      let q = place-of g gates (rw (posed .listed) m) in
-      let k = h (q .0) (rw long (q .1 .0)) in
-      rw (posed .priced (q .0) (q .1 .0), q .1 .1) at k
 
   -- what the sums and the costs tried so far tell of the next cost
   pub counted-at : length prices ≡ length gates → (sums : List ℕ) (c : ℕ) → P .mostGates ≤ 12 → Marked prices (P .mostGates) sums → Dearer P c → Counted P c sums

@@ -6,7 +6,7 @@ use Prim.Native.Nat.{ℕ, _+_, _-_, _*_, _≤_, _<_}
 use lib.ListN.{length, getD}
 use Rattle.logic.specs.Lists.{Among}
 use Rattle.circuit.specs.Measure.{cost}
-use Rattle.problem.specs.Problems.{Problem}
+use Rattle.problem.specs.Problems.{Problem, firstGood}
 use Rattle.choice.specs.declared.Best.{Best}
 use Rattle.choice.specs.Inner.{view}
 use Rattle.problem.specs.Inner.{Past, Dearer, Shortest}
@@ -27,6 +27,11 @@ pub record Deepened (P : Problem) (limit most : ℕ) (r : Best) : Type 0 where
 pub record Priced (P : Problem) (limit : ℕ) (r : Best) : Type 0 where
   pub failed : r .found ≡ false → Dearer P (limit + 1)
   pub first : r .found ≡ true → Shortest P limit (view r) (r .len)
+
+-- what a search through the costs below `to` comes to
+pub record Cheapened (P : Problem) (to : ℕ) (r : Best) : Type 0 where
+  pub failed : r .found ≡ false → Dearer P to
+  pub first : r .found ≡ true → view r ≡ firstGood P
 
 -- the same task with another limit on cost
 unfoldable pub limitedTo : Task → ℕ → Task

@@ -7,11 +7,11 @@ ghost use mathlib.Core.Path.{_≡_};
 ghost use mathlib.Core.Bool.{true};
 ghost use Prim.Native.Nat.{_≤_};
 ghost use Rattle.choice.specs.Inner.{view};
-ghost use Rattle.problem.specs.Problems.{Problem, firstGood};
-ghost use Rattle.problem.specs.Inner.{Past, Shortest};
+ghost use Rattle.problem.specs.Problems.{Problem};
+ghost use Rattle.problem.specs.Inner.{Past, Dearer, Shortest};
 ghost use Rattle.budget.specs.Sums.{Marked};
 ghost use Rattle.states.specs.States.{Supplied, Ready, Posed, Limited, Bounded};
-ghost use Rattle.deepening.specs.Deepening.{Counted, Deepened, Priced, limitedTo};
+ghost use Rattle.deepening.specs.Deepening.{Counted, Deepened, Priced, Cheapened, limitedTo};
 
 // Deepening on gates: one gate more until a search finds something. Sums are given where nothing good costs less than the task's limit.
 pub fn fewest(
@@ -98,7 +98,7 @@ fn limited_to(task: Task, limit: usize) -> Task
     }
 }
 
-// Deepening on cost: the costs below that of what is held, rising. One that is no sum of prices ends at the root of each walk.
+// Deepening on cost: the costs from `from` on and below `to`, rising. One that is no sum of prices ends at the root of each walk.
 pub fn cheaper(
     gates: &[u8],
     prices: &[u8],
@@ -107,18 +107,20 @@ pub fn cheaper(
     least: Least,
     sums: &[u8],
     held: Best,
+    from: usize,
+    to: usize,
     bits: &[u64],
     reach: Reach,
 ) -> Best
     requires { ⌜ Supplied (now gates) (now prices) (now durations) task (now bits) reach ⌝ }
     requires { ⌜ Ready task least × (task .«gate_limit» ≤ 12) ⌝ }
     requires { ⌜ Marked (now prices) (task .«gate_limit») (now sums) ⌝ }
-    requires { ⌜ (held .found ≡ true) × (held .len ≤ 12) ⌝ }
-    ensures { λ r. ⌜ ((P : Problem) → Posed P task (now (gates .entry)) (now (prices .entry)) (now (durations .entry)) → Bounded P least → Limited P task → Shortest P (P .mostCost) (view held) (held .len) → view r ≡ firstGood P) ⌝ }
+    requires { ⌜ (held .found ≡ true) × ((from ≤ to) × (to ≤ held .cost)) ⌝ }
+    ensures { λ r. ⌜ ((P : Problem) → Posed P task (now (gates .entry)) (now (prices .entry)) (now (durations .entry)) → Bounded P least → Limited P task → Shortest P (P .mostCost) (view held) (held .len) → Dearer P from → Cheapened P to r) ⌝ }
     ensures { λ r. ⌜ r .len ≤ 12 ⌝ }
 {
-    let mut c = 0;
-    while c < held.cost as usize {
+    let mut c = from;
+    while c < to {
         let b = at_cost(
             gates,
             prices,
@@ -135,5 +137,5 @@ pub fn cheaper(
         }
         c += 1;
     }
-    held
+    choice::nothing()
 }

@@ -14,7 +14,7 @@ use Rattle.logic.specs.Answers.{refused, answered}
 use Rattle.logic.proofs.Chain.{rule-never}
 use Rattle.record.specs.JobRules.{jobCode}
 use Rattle.choice.specs.Choices.{Choice}
-use Rattle.search.specs.Outcomes.{problemOf, Found, searchCode, searchOver, searchOf}
+use Rattle.outcomes.specs.Outcomes.{problemOf, Found, searchCode, searchOver, searchOf}
 use Rattle.candidates.specs.Candidates.{candidates}
 use Rattle.candidates.proofs.Alone.{as-alone}
 use Rattle.slot.specs.Slots.{Slot, empty, working, finished, isEmpty, isWorking, isFinished, begun, resultOf}

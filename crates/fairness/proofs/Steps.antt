@@ -16,7 +16,7 @@ use Rattle.logic.specs.Rules.{pick, bit}
 use Rattle.choice.specs.Choices.{Choice, attempt, improve}
 use Rattle.choice.proofs.First.{improve-append}
 use Rattle.problem.specs.Problems.{good}
-use Rattle.search.specs.Outcomes.{problemOf}
+use Rattle.outcomes.specs.Outcomes.{problemOf}
 use Rattle.slot.specs.Slots.{Slot, empty, working, finished, isEmpty, isWorking, going, begun, tried}
 use Rattle.scheduler.specs.States.{State, slotAt, withSlot, postCode, afterPost, servedBy, afterServing, afterTurn, collectCode, afterCollect}
 use Rattle.scheduler.proofs.Rules.{post-parts, post-refused, post-accepted, collect-refused, collect-done}

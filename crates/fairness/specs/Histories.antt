@@ -10,7 +10,7 @@ use lib.ListN.{length, take, drop}
 use Rattle.logic.specs.Rules.{bit}
 use Rattle.choice.specs.Choices.{improve}
 use Rattle.problem.specs.Problems.{good, firstGood}
-use Rattle.search.specs.Outcomes.{problemOf}
+use Rattle.outcomes.specs.Outcomes.{problemOf}
 use Rattle.candidates.specs.Candidates.{candidates}
 use Rattle.slot.specs.Slots.{Slot, working, finished, isEmpty}
 use Rattle.scheduler.specs.States.{State, startState, slotAt, postCode, afterPost, servedBy, afterTurn, afterCollect}

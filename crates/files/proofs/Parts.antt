@@ -9,7 +9,7 @@ use Rattle.logic.specs.Lists.{total}
 use Rattle.logic.proofs.Prefixes.{told-by}
 use Rattle.cutting.specs.Records.{recordsOf, countOf, jobAt, allCut}
 use Rattle.cutting.proofs.Joined.{too-long}
-use Rattle.line.specs.Lines.{lineOf}
+use Rattle.lines.specs.Lines.{lineOf}
 use Rattle.report.specs.Report.{refusedText}
 use Rattle.files.specs.Parts.{batchParts, partAt, TellingBatch}
 

@@ -5,7 +5,7 @@ use Prim.Native.Nat.{ℕ}
 use lib.ListN.{getD, take}
 use Rattle.logic.specs.Rules.{pick}
 use Rattle.cutting.specs.Records.{recordsOf, allCut}
-use Rattle.line.specs.Lines.{lineOf}
+use Rattle.lines.specs.Lines.{lineOf}
 use Rattle.report.specs.Report.{refusedText}
 
 -- `gazbolk batch`: for each job the line that `main` prints for it alone; or that the file cannot be cut into records

@@ -1,15 +1,14 @@
-// From the bytes of files to what is printed: a job's, a circuit's, which is a record or RevLib text, a library's where one is named, and a
-// batch's.
-use search::Searched;
+// From the bytes of files to what a search prints: a job's file, with a library's where one is named, and a batch's.
+use outcomes::Searched;
 ghost use mathlib.Core.Path.{_≡_};
 ghost use Prim.Native.Nat.{_<_, _≤_};
 ghost use lib.ListN.{length};
-ghost use Rattle.search.specs.Outcomes.{reported, written, searchedAnswer, sizeIn};
+ghost use Rattle.outcomes.specs.Outcomes.{reported, written, searchedAnswer, sizeIn};
 ghost use Rattle.pieces.specs.Text.{inFront};
 ghost use Rattle.cutting.specs.Records.{countOf, jobAt};
-ghost use Rattle.line.specs.Lines.{lineOf};
+ghost use Rattle.lines.specs.Lines.{lineOf};
 ghost use Rattle.files.specs.Parts.{batchParts, partAt, TellingBatch};
-ghost use Rattle.verdicts.specs.Files.{given, finding, searchText};
+ghost use Rattle.rooms.specs.Files.{given, finding, searchText};
 
 // How many bytes of a batch's file are enough: one more than the longest batch has.
 pub fn batch_room() -> usize

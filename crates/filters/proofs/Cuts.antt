@@ -17,7 +17,7 @@ use Rattle.logic.proofs.Members.{among-nil, among-cons, among-append, among-hea
 use Rattle.gate.specs.Gates.{targetOf, gateOf}
 use Rattle.gate.specs.Inner.{columnStep}
 use Rattle.gate.proofs.Widen.{parts}
-use Rattle.circuit.specs.Inner.{columnsOver, columnsAfter}
+use Rattle.running.specs.Inner.{columnsOver, columnsAfter}
 use Rattle.columns.specs.declared.Wanted.{Wanted}
 use Rattle.columns.specs.Wanted.{startColumns}
 use Rattle.columns.specs.Finish.{Finish}

@@ -8,7 +8,7 @@ use Rattle.logic.specs.Lists.{back, Among}
 use Rattle.logic.proofs.Members.{place-of, among-head, among-tail}
 use Rattle.gate.specs.Gates.{gateOf}
 use Rattle.gate.specs.Inner.{columnStep}
-use Rattle.circuit.specs.Inner.{columnsOver}
+use Rattle.running.specs.Inner.{columnsOver}
 use Rattle.filters.specs.Sieve.{Near}
 
 module _ (P : List ℕ → Type 0) (gates : List ℕ) where

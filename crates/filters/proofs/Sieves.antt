@@ -25,8 +25,8 @@ use Rattle.gate.specs.Gates.{targetOf, lawful, gateOf}
 use Rattle.gate.specs.Inner.{firing, columnStep}
 use Rattle.gate.proofs.Widen.{parts, widen}
 use Rattle.gate.proofs.Slices.{length-step}
-use Rattle.circuit.specs.Inner.{columnsOver, columnsAfter}
-use Rattle.circuit.proofs.Reversal.{columns-length}
+use Rattle.running.specs.Inner.{columnsOver, columnsAfter}
+use Rattle.running.proofs.Reversal.{columns-length}
 use Rattle.layouts.specs.Layouts.{Width, wireOf, layoutsFor}
 use Rattle.columns.specs.declared.Wanted.{Wanted}
 use Rattle.columns.specs.Wanted.{startColumns, met, allRows, dirt, tidy}

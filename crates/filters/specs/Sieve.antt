@@ -10,7 +10,7 @@ use Rattle.logic.specs.Rules.{pick}
 use Rattle.logic.specs.Lists.{numbersFrom, Among}
 use Rattle.gate.specs.Gates.{lawful, gateOf}
 use Rattle.gate.specs.Inner.{columnStep}
-use Rattle.circuit.specs.Inner.{columnsAfter}
+use Rattle.running.specs.Inner.{columnsAfter}
 use Rattle.layouts.specs.Layouts.{layoutsFor}
 use Rattle.columns.specs.declared.Wanted.{Wanted}
 use Rattle.columns.specs.Wanted.{startColumns, allRows}

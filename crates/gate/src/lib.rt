@@ -3,6 +3,7 @@ ghost use mathlib.Core.Path.{_≡_};
 ghost use Prim.Native.Nat.{_≤_, _<_};
 ghost use Rattle.gate.specs.Gates.{lawful, lowest, middle, highest, kindFor, gateOf};
 ghost use lib.Count.{ones};
+ghost use Rattle.logic.specs.Lists.{allOf};
 
 // What the controls make of a gate; the cases carry the control wires.
 pub enum Kind {
@@ -31,6 +32,21 @@ pub fn lawful(k: u32, w: usize, b: u8) -> bool
             logic::both((m >> t) % 2 == 0, u8::count_ones(b % 32) <= k),
         ),
     )
+}
+
+// Whether every byte of a list is such a gate.
+pub fn all_lawful(k: u32, w: usize, list: &[u8]) -> bool
+    requires { ⌜ w < 64 ⌝ }
+    ensures { λ r. ⌜ r ≡ allOf (lawful k w) (now (list .entry)) ⌝ }
+{
+    let mut i = 0;
+    while i < list.len() {
+        if !lawful(k, w, list[i]) {
+            return false;
+        }
+        i += 1;
+    }
+    true
 }
 
 // The lowest wire of a mask.

@@ -11,7 +11,7 @@ use Rattle.logic.specs.Lists.{allOf}
 use Rattle.logic.proofs.Chain.{both-right}
 use Rattle.logic.proofs.Members.{place-of, among-all}
 use Rattle.gate.specs.Gates.{lawful}
-use Rattle.circuit.specs.Run.{forwards}
+use Rattle.running.specs.Run.{forwards}
 use Rattle.reversal.proofs.Runs.{runs-back, lawful-reverse}
 use Rattle.layouts.specs.Layouts.{plain, layoutsFor}
 use Rattle.table.specs.Rows.{valueOf, realizes}
@@ -21,8 +21,8 @@ use Rattle.record.proofs.Kept.{sound-job, wires-within}
 use Rattle.parity.specs.Parity.{values, full, distinct, permutes}
 use Rattle.odd_tables.proofs.Permutation.{permutation}
 use Rattle.problem.specs.Demand.{Admitted}
-use Rattle.search.specs.Outcomes.{GateSet, problemOver}
-use Rattle.search.specs.Inner.{Lawfuls}
+use Rattle.outcomes.specs.Outcomes.{GateSet, problemOver}
+use Rattle.outcomes.specs.Inner.{Lawfuls}
 use Rattle.inverse.specs.Mirror.{Mirrored}
 use Rattle.inverse.specs.Inverse.{Permutation, Inverse, valueAt}
 use Rattle.inverse.proofs.Tables.{value-low, realized-is}

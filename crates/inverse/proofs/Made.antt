@@ -23,9 +23,9 @@ use Rattle.record.specs.Inner.{jobRest}
 use Rattle.record.proofs.Kept.{sound-job}
 use Rattle.parity.specs.Parity.{values, fullRow, full, distinct, permutes}
 use Rattle.odd_tables.proofs.Permutation.{permutation}
-use Rattle.search.specs.Outcomes.{searchOf}
+use Rattle.outcomes.specs.Outcomes.{searchOf}
 use Rattle.entries.specs.Library.{libraryCode}
-use Rattle.library.specs.Calls.{searchWith}
+use Rattle.libraries.specs.Calls.{searchWith}
 use Rattle.permutations.specs.Orders.{rowOf}
 use Rattle.permutations.proofs.Lists.{row-of-at}
 use Rattle.inverse.specs.Mirror.{Alike}

@@ -16,13 +16,13 @@ use Rattle.measures.specs.Measures.{measuresOf}
 use Rattle.choice.specs.Choices.{Choice}
 use Rattle.problem.specs.Problems.{choiceOf, firstGood}
 use Rattle.problem.proofs.Facts as Demand
-use Rattle.search.specs.Outcomes.{GateSet, ownSet, problemOver, Found, outcomeOf, searchOver, searchCode, searchOf}
-use Rattle.search.specs.Inner.{Lawfuls}
-use Rattle.search.proofs.Facts as Search
+use Rattle.outcomes.specs.Outcomes.{GateSet, ownSet, problemOver, Found, outcomeOf, searchOver, searchCode, searchOf}
+use Rattle.outcomes.specs.Inner.{Lawfuls}
+use Rattle.outcomes.proofs.Facts as Search
 use Rattle.entries.specs.Library.{entriesOf, entriesOk, librarySizeOk, libraryCode}
-use Rattle.library.specs.Calls.{jobWithCode, setIn, searchWithCode, searchWith}
-use Rattle.library.proofs.Sound.{sound-library, gates-lawful, searchable}
-use Rattle.library.proofs.Searched.{answers-with}
+use Rattle.libraries.specs.Calls.{jobWithCode, setIn, searchWithCode, searchWith}
+use Rattle.libraries.proofs.Sound.{sound-library, gates-lawful, searchable}
+use Rattle.libraries.proofs.Searched.{answers-with}
 use Rattle.inverse.specs.Mirror.{Three, three, firstThree, answeredThree, Alike}
 use Rattle.inverse.specs.Inverse.{Inverse}
 use Rattle.inverse.proofs.Problems.{first-same}

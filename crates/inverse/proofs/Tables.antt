@@ -17,8 +17,8 @@ use Rattle.logic.proofs.Chain.{both-left, both-right, implied}
 use Rattle.logic.proofs.Below.{below}
 use Rattle.logic.proofs.Fold.{all-at}
 use Rattle.gate.specs.Gates.{lawful}
-use Rattle.circuit.specs.Run.{forwards}
-use Rattle.circuit.proofs.Reversal.{stays}
+use Rattle.running.specs.Run.{forwards}
+use Rattle.running.proofs.Reversal.{stays}
 use Rattle.layouts.specs.Layouts.{Width, plain}
 use Rattle.table.specs.Rows.{careOf, valueOf, rowOk, bitAgrees, rowAgrees, agrees, realizes}
 use Rattle.table.proofs.Rows.{agrees-at, agrees-all, bare-realizes}

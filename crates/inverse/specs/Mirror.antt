@@ -9,7 +9,7 @@ use Rattle.logic.specs.Answers.{Answer, refused, answered}
 use Rattle.choice.specs.Choices.{Choice}
 use Rattle.problem.specs.Problems.{Problem}
 use Rattle.problem.specs.Demand.{Admitted}
-use Rattle.search.specs.Outcomes.{Found}
+use Rattle.outcomes.specs.Outcomes.{Found}
 
 -- alike but for what is asked for, and there a list realizes the one exactly where it realizes the other backwards
 pub record Mirrored (P Q : Problem) : Type 0 where

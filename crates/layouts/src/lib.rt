@@ -1,7 +1,7 @@
 // The final layouts: which are in order, which are allowed, and the table of them.
 ghost use mathlib.Core.Path.{_≡_};
 ghost use lib.ListN.{length, getD};
-ghost use Rattle.layouts.specs.Layouts.{Width, layoutOk, layoutsFor, allowed};
+ghost use Rattle.layouts.specs.Layouts.{Width, layoutOk, layoutsFor, allowed, plain};
 
 // The layouts of three and of four outputs, in rising order.
 const LAYOUTS3: [u8; 6] = [0x18, 0x24, 0x48, 0x60, 0x84, 0x90];
@@ -88,4 +88,11 @@ pub fn allowed(n: usize, free: usize, p: u8) -> bool
     } else {
         if n == 3 { p == 24 } else { p == 27 }
     }
+}
+
+// The layout of outputs that stay where they are.
+pub fn plain(n: usize) -> u8
+    ensures { λ r. ⌜ r ≡ plain n ⌝ }
+{
+    if n == 3 { 0x18 } else { 0x1B }
 }

@@ -16,11 +16,12 @@ use Rattle.circuit.proofs.Prefix.{depth-most}
 use Rattle.layouts.specs.Layouts.{plain}
 use Rattle.table.specs.Rows.{valueOf, realizes}
 use Rattle.fields.specs.Jobs.{longer, mostControls, dataWires, wires, gateLimit, depthLimit, durations, durationOf, rows}
-use Rattle.record.proofs.Kept.{sound-job, two-or-three}
+use Rattle.record.proofs.Kept.{sound-job}
+use Rattle.fields.proofs.Widths.{two-or-three}
 use Rattle.parity.specs.Parity.{values, full, distinct, permutes}
 use Rattle.problem.specs.Demand.{Solves}
-use Rattle.search.specs.Outcomes.{problemOver, problemOf}
-use Rattle.sensitivity.proofs.Jobs.{weight-small, total-small, roomy}
+use Rattle.outcomes.specs.Outcomes.{problemOver, problemOf}
+use Rattle.repriced.proofs.Jobs.{weight-small, total-small, roomy}
 use Rattle.inverse.specs.Inverse.{valueAt}
 use Rattle.inverse.proofs.Tables.{value-low, realized-is}
 use Rattle.inverse.proofs.Jobs.{bare-wires, plain-only}

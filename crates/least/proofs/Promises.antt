@@ -7,8 +7,8 @@ use Rattle.logic.specs.Answers.{refused}
 use Rattle.layouts.specs.Layouts.{plain}
 use Rattle.fields.specs.Jobs.{dataWires, gateLimit}
 use Rattle.parity.specs.Parity.{values}
-use Rattle.search.specs.Outcomes.{searchOf}
-use Rattle.search.proofs.Facts as Search
+use Rattle.outcomes.specs.Outcomes.{searchOf}
+use Rattle.outcomes.proofs.Facts as Search
 use Rattle.permutations.specs.Sizes.{cellOf}
 use Rattle.permutations.proofs.Promises.{exceeds}
 use Rattle.least.specs.Counting.{Counting}

@@ -3,7 +3,7 @@ use mathlib.Core.Path.{_≡_}
 use mathlib.Core.List.{List}
 use Prim.Native.Nat.{ℕ}
 use Rattle.fields.specs.Jobs.{dataWires, costLimit, depthLimit}
-use Rattle.sensitivity.specs.Demand.{Bytes}
+use Rattle.repriced.specs.Demand.{Bytes}
 use Rattle.inverse.specs.Inverse.{Permutation}
 
 -- "A well-formed job with n = 3, m = 0, a full permutation, fixed placing and both other limits at 65,535": of 20 bytes or of 22. That its

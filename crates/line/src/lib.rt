@@ -1,18 +1,10 @@
 // From a job's bytes to the bytes of the line that `main` prints.
-use search::Searched;
+use outcomes::Searched;
 ghost use mathlib.Core.Path.{_≡_};
 ghost use Prim.Native.Nat.{_≤_};
 ghost use lib.ListN.{length};
 ghost use Rattle.pieces.specs.Text.{inFront};
-ghost use Rattle.line.specs.Lines.{lineOf, Telling};
-
-// How many bytes of an input are enough to tell its line: one more than the longest job has.
-pub fn room() -> usize
-    ensures { λ r. ⌜ Telling r ⌝ }
-    ensures { λ r. ⌜ r ≤ 4096 ⌝ }
-{
-    31
-}
+ghost use Rattle.lines.specs.Lines.{lineOf};
 
 // Searches for a job's circuit and writes the line to the start of `out`; returns the line's length.
 pub fn line(job: &[u8], out: &mut [u8]) -> usize

@@ -5,9 +5,7 @@ ghost use mathlib.Core.Path.{_≡_};
 ghost use mathlib.Core.List.{_++_};
 ghost use Prim.Native.Nat.{_+_, _-_, _*_, _%_, _^_, _<_, _≤_};
 ghost use lib.ListN.{length, take, drop, replicate};
-ghost use Rattle.logic.specs.Lists.{allOf};
-ghost use Rattle.gate.specs.Gates.{lawful};
-ghost use Rattle.circuit.specs.Run.{forwards};
+ghost use Rattle.running.specs.Run.{forwards};
 ghost use Rattle.layouts.specs.Layouts.{Width};
 ghost use Rattle.windows.specs.Windows.{weights, windowJob};
 ghost use Rattle.windows.specs.Listings.{sizesOk, rewriteCode};
@@ -40,7 +38,7 @@ fn row(count: usize, gates: &[u8], x: usize) -> u8
     requires { ⌜ (1 ≤ count) × (count ≤ 16) ⌝ }
     ensures { λ r. ⌜ r ≡ 16 * (count - 1) + forwards (now (gates .entry)) x % 16 ⌝ }
 {
-    let value = circuit::forwards(gates, x) % 16;
+    let value = running::forwards(gates, x) % 16;
     (16 * (count - 1) + value) as u8
 }
 
@@ -140,20 +138,6 @@ pub fn clear(list: &mut [u8], from: usize)
     }
 }
 
-fn all_lawful(wires: usize, list: &[u8]) -> bool
-    requires { ⌜ wires < 64 ⌝ }
-    ensures { λ r. ⌜ r ≡ allOf (lawful 2 wires) (now (list .entry)) ⌝ }
-{
-    let mut i = 0;
-    while i < list.len() {
-        if !gate::lawful(2, wires, list[i]) {
-            return false;
-        }
-        i += 1;
-    }
-    true
-}
-
 fn sizes_ok(wires: usize, window: usize) -> bool
     ensures { λ r. ⌜ r ≡ sizesOk wires window ⌝ }
 {
@@ -171,5 +155,5 @@ pub fn rewrite_code(wires: usize, window: usize, list: &[u8]) -> u8
     if 4096 < list.len() {
         return 33;
     }
-    logic::rule(all_lawful(wires, list), 34, 0)
+    logic::rule(gate::all_lawful(2, wires, list), 34, 0)
 }

@@ -10,8 +10,8 @@ use lib.ListN.{length}
 use Rattle.logic.specs.Rules.{both, pick}
 use Rattle.logic.proofs.Chain.{both-left, both-right}
 use Rattle.logic.specs.Words.{bytes}
-use Rattle.meanings.specs.Meanings.{Meaning, _means_, jobMeanings, circuitMeanings, verifyMeanings, libraryMeanings, listingMeanings, otherMeanings}
-use Rattle.meanings.specs.Meanings.{said, otherMeaning, listingMeaning, libraryMeaning, verifyMeaning, circuitMeaning, meaning}
+use Rattle.sentences.specs.Meanings.{Meaning, _means_, jobMeanings, circuitMeanings, verifyMeanings, libraryMeanings, listingMeanings, otherMeanings}
+use Rattle.sentences.specs.Meanings.{said, otherMeaning, listingMeaning, libraryMeaning, verifyMeaning, circuitMeaning, meaning}
 
 -- of one list
 abbrev brief : List Meaning → Bool

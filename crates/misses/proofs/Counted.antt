@@ -13,8 +13,8 @@ use Rattle.logic.specs.Lists.{allOf}
 use Rattle.logic.specs.Bit.{bitOf}
 use Rattle.logic.proofs.Bits.{pow-suc, bit-half}
 use Rattle.gate.specs.Gates.{lawful}
-use Rattle.circuit.specs.Run.{forwards}
-use Rattle.circuit.specs.Inner.{columnsAfter}
+use Rattle.running.specs.Run.{forwards}
+use Rattle.running.specs.Inner.{columnsAfter}
 use Rattle.layouts.specs.Layouts.{Width}
 use Rattle.table.specs.Rows.{bitAgrees}
 use Rattle.columns.specs.Wanted.{wantedOf, startColumns}

@@ -18,7 +18,7 @@ use Rattle.logic.proofs.Counts.{count-none, count-split}
 use Rattle.gate.specs.declared.Gate.{Gate}
 use Rattle.gate.specs.Gates.{lawful, gateOf}
 use Rattle.gate.specs.Inner.{firing, columnStep}
-use Rattle.circuit.specs.Inner.{columnsAfter}
+use Rattle.running.specs.Inner.{columnsAfter}
 use Rattle.layouts.specs.Layouts.{Width, wireOf, layoutsFor}
 use Rattle.layouts.proofs.Layouts.{wire-within, wire-once, wire-fixed}
 use Rattle.columns.specs.declared.Wanted.{Wanted}

@@ -11,7 +11,7 @@ use Rattle.logic.specs.Rules.{both, bit, allBelow, countBelow}
 use Rattle.logic.proofs.Chain.{both-parts, both-true}
 use Rattle.logic.proofs.Below.{below}
 use Rattle.logic.proofs.Counts.{same-truth, count-none, count-le}
-use Rattle.circuit.specs.Run.{forwards}
+use Rattle.running.specs.Run.{forwards}
 use Rattle.table.specs.Rows.{bitAgrees, rowAgrees, agreesFrom, agrees, clean, realizes}
 use Rattle.misses.specs.Misses.{rowMisses, missesFrom, missedBits, tidily, approximates}
 

@@ -5,7 +5,7 @@ use mathlib.Core.Option.{Option}
 use Prim.Native.Nat.{ℕ, suc, _+_, min}
 use lib.Dec.{leb}
 use Rattle.logic.specs.Rules.{both, pick, countBelow}
-use Rattle.circuit.specs.Run.{forwards}
+use Rattle.running.specs.Run.{forwards}
 use Rattle.table.specs.Rows.{bitAgrees, clean}
 use Rattle.choice.specs.Choices.{Choice}
 use Rattle.problem.specs.Problems.{Problem, choices, good, firstGood}

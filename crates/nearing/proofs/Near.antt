@@ -16,7 +16,7 @@ use Rattle.logic.proofs.Members.{among-all}
 use Rattle.gate.specs.Gates.{lawful}
 use Rattle.gate.proofs.Widen.{widen}
 use Rattle.circuit.specs.Measure.{greatest}
-use Rattle.circuit.specs.Inner.{columnsOver, columnsAfter}
+use Rattle.running.specs.Inner.{columnsOver, columnsAfter}
 use Rattle.layouts.specs.Layouts.{layoutsFor}
 use Rattle.columns.specs.Wanted.{startColumns, tidy}
 use Rattle.choice.specs.Choices.{Choice, improve}

@@ -1,7 +1,7 @@
 -- A problem under which a choice may miss some wanted bits, told by a task's columns. No public contract cites this.
 use mathlib.Core.List.{List}
 use Prim.Native.Nat.{ℕ}
-use Rattle.circuit.specs.Inner.{columnsAfter}
+use Rattle.running.specs.Inner.{columnsAfter}
 use Rattle.columns.specs.Wanted.{startColumns}
 use Rattle.problem.specs.Problems.{Problem}
 use Rattle.states.specs.declared.Task.{Task}

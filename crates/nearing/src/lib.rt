@@ -97,7 +97,7 @@ fn hopeful(
     ensures { λ r. ⌜ ((P : Problem) → Asks P task → At P s → Lists P entry → now (table .entry) ≡ tableOf (task .controls) (task .wanted) (s .columns) → r ≡ false → view best ≡ triedBy needless (loosened task k P) (task .«cost_limit») (listOf s) rest (entry .gate) (view best)) ⌝ }
     ensures { λ r. ⌜ ((P : Problem) → Asks P task → At P s → Lists P entry → now (table .entry) ≡ tableOf (task .controls) (task .wanted) (s .columns) → r ≡ true → needless (listOf s) (entry .gate) ≡ false) ⌝ }
 {
-    if node::needless(table, s, entry.gate) {
+    if skipping::needless(table, s, entry.gate) {
         return false;
     }
     let cost = s.cost as usize + entry.price as usize;
@@ -110,7 +110,7 @@ fn hopeful(
     if k < misses::missed_at_least(wanted, next, task.outputs, task.free, rest) {
         return false;
     }
-    node::in_time(task, s, entry)
+    skipping::in_time(task, s, entry)
 }
 
 // What is held once every list that begins with the node's and goes on by at most `remaining` gates, none of them needless, was looked at.

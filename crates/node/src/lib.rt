@@ -1,5 +1,5 @@
-// A node of the search: a gate list with what it leads to, the tests that pass a gate or a list over, and the node one gate further. Its
-// contracts speak of every problem that the arguments pose.
+// The tests that pass a gate or a list over at a node of the search, which is a gate list with what it leads to. Their contracts speak of every
+// problem that the arguments pose.
 use choice::Best;
 use columns::Wanted;
 use hashes::Reach;
@@ -9,13 +9,12 @@ use states::Node;
 use states::Task;
 ghost use mathlib.Core.Path.{_≡_};
 ghost use mathlib.Core.Bool.{true, false};
-ghost use mathlib.Core.List.{List, [], _∷_, _++_, List·Memᴰ};
+ghost use mathlib.Core.List.{List};
 ghost use mathlib.Core.Logic.{_⊎_};
 ghost use Prim.Native.Nat.{ℕ, _+_, _≤_, _<_};
 ghost use lib.ListN.{length};
 ghost use Rattle.logic.specs.Bit.{bitOf};
 ghost use Rattle.gate.specs.Gates.{targetOf, lawful};
-ghost use Rattle.circuit.specs.Measure.{depth};
 ghost use Rattle.layouts.specs.Layouts.{Width};
 ghost use Rattle.columns.specs.declared.Wanted.{Wanted};
 ghost use Rattle.choice.specs.Inner.{view};
@@ -27,29 +26,6 @@ ghost use Rattle.plan.specs.Plan.{planOf};
 ghost use Rattle.filters.specs.Sieve.{Sieve};
 ghost use Rattle.states.specs.declared.Task.{Task};
 ghost use Rattle.states.specs.States.{listOf, Small, Fair, Asks, At, Lists, needless, Passed};
-
-// Whether gate `g` need not be tried at a node: it changes no column, or a list that comes first does the same.
-pub fn needless(table: &[u16], s: Node, g: u8) -> bool
-    requires { ⌜ (length (now table) ≡ 40) × (targetOf g < 5) ⌝ }
-    ensures { λ r. ⌜ ((P : Problem) (task : Task) → Asks P task → At P s → List·Memᴰ g (P .gates) → now (table .entry) ≡ tableOf (task .controls) (task .wanted) (s .columns) → r ≡ needless (listOf s) g) ⌝ }
-{
-    let marks = s.marks;
-    logic::either(products::idle(table, g), masks::marked(marks, g))
-}
-
-// Whether the list with one gate more ends within the limit on depth.
-pub fn in_time(task: Task, s: Node, entry: Entry) -> bool
-    requires { ⌜ (s .len < 12) × Small s ⌝ }
-    ensures { λ r. ⌜ (r ≡ false → (P : Problem) → Asks P task → At P s → Lists P entry → P .mostDepth < depth (P .duration) (listOf s ++ (entry .gate ∷ []))) ⌝ }
-{
-    // twelve gates of the greatest duration end by 3060, so a greater limit cuts nothing
-    if 3060 <= task.depth_limit {
-        return true;
-    }
-    let times = s.times;
-    let later = circuit::hold(gate::decode(entry.gate), entry.duration, times);
-    circuit::latest(later) as usize <= task.depth_limit
-}
 
 // Whether a gate is on an open wire and worth a try: the first tests, since most gates go by them.
 pub fn eligible(
@@ -87,7 +63,7 @@ pub fn promising(
     ensures { λ r. ⌜ ((P : Problem) (remaining : ℕ) → Asks P task → At P s → Lists P entry → now (table .entry) ≡ tableOf (task .controls) (task .wanted) (s .columns) → 1 ≤ remaining → Enough P (task .«cost_limit») (listOf s) remaining most (view best) → Sieve (now (bits .entry)) reach (P .gates) (task .controls) (task .wanted) (task .outputs) (task .free) → r ≡ false → Passed P (task .«cost_limit») s (entry .gate) remaining (view best)) ⌝ }
     ensures { λ r. ⌜ ((P : Problem) → Asks P task → At P s → Lists P entry → now (table .entry) ≡ tableOf (task .controls) (task .wanted) (s .columns) → r ≡ true → needless (listOf s) (entry .gate) ≡ false) ⌝ }
 {
-    if needless(table, s, entry.gate) {
+    if skipping::needless(table, s, entry.gate) {
         return false;
     }
     let cost = s.cost as usize + entry.price as usize;
@@ -110,5 +86,5 @@ pub fn promising(
     ) {
         return false;
     }
-    in_time(task, s, entry)
+    skipping::in_time(task, s, entry)
 }

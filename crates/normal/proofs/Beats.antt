@@ -16,9 +16,9 @@ use Rattle.gate.specs.Gates.{lawful, gateOf}
 use Rattle.gate.specs.Inner.{firing}
 use Rattle.gate.proofs.Slices.{length-step}
 use Rattle.circuit.specs.Measure.{cost, depth, greatest, holdByte, idle, readyTimes}
-use Rattle.circuit.specs.Inner.{columnsOver, columnsAfter}
+use Rattle.running.specs.Inner.{columnsOver, columnsAfter}
 use Rattle.circuit.proofs.Times.{Sooner, length-hold, hold-rises, length-ready, ready-sooner, greatest-sooner}
-use Rattle.circuit.proofs.Reversal.{columns-length}
+use Rattle.running.proofs.Reversal.{columns-length}
 use Rattle.choice.specs.Choices.{lexLess, before}
 use Rattle.choice.proofs.Order.{lex-lt, lex-eq, by-bytes}
 use Rattle.choice.proofs.Held.{by-fewer}

@@ -14,7 +14,7 @@ use Rattle.logic.proofs.Chain.{either-cases}
 use Rattle.logic.proofs.Members.{all-members}
 use Rattle.gate.specs.Gates.{lawful, gateOf}
 use Rattle.gate.specs.Inner.{firing}
-use Rattle.circuit.specs.Inner.{columnsAfter}
+use Rattle.running.specs.Inner.{columnsAfter}
 use Rattle.problem.specs.Problems.{Problem, choiceOf, here, within}
 use Rattle.problem.specs.Inner.{lookedUnder}
 use Rattle.problem.proofs.Listed.{unlisted, within-parts, within-joined}

@@ -10,7 +10,7 @@ use Rattle.logic.specs.Lists.{along}
 use Rattle.logic.specs.Bit.{bitOf}
 use Rattle.gate.specs.Gates.{targetOf, maskOf, gateOf}
 use Rattle.gate.specs.Inner.{firing}
-use Rattle.circuit.specs.Inner.{columnsAfter}
+use Rattle.running.specs.Inner.{columnsAfter}
 
 -- wire w is a control of the gate
 abbrev pub controlled : ℕ → ℕ → Bool

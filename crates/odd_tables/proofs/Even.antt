@@ -13,7 +13,7 @@ use Rattle.logic.specs.Lists.{allOf, total, along, numbersFrom}
 use Rattle.logic.proofs.Chain.{both-left, both-right}
 use Rattle.gate.specs.Gates.{maskOf, lawful, step}
 use Rattle.gate.proofs.Widen.{parts}
-use Rattle.circuit.specs.Run.{forwards}
+use Rattle.running.specs.Run.{forwards}
 use Rattle.layouts.specs.Layouts.{layoutOk}
 use Rattle.parity.specs.Parity.{odd, parityBy, inversions}
 use Rattle.odd_tables.specs.Ends.{endsOf, threeControls, threeControlGates}

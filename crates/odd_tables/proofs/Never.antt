@@ -15,7 +15,7 @@ use Rattle.logic.proofs.Chain.{not-so}
 use Rattle.logic.proofs.Below.{below}
 use Rattle.gate.specs.Gates.{lawful}
 use Rattle.gate.proofs.Tables.{all-widen}
-use Rattle.circuit.specs.Run.{forwards}
+use Rattle.running.specs.Run.{forwards}
 use Rattle.layouts.specs.Layouts.{layoutOk}
 use Rattle.table.specs.Rows.{careOf, realizes}
 use Rattle.table.proofs.Rows.{agrees-at, bit-at, realizes-agrees}

@@ -15,7 +15,7 @@ use Rattle.logic.proofs.Chain.{both-left}
 use Rattle.logic.proofs.Below.{below}
 use Rattle.logic.proofs.Fold.{all-at}
 use Rattle.gate.specs.Gates.{lawful}
-use Rattle.circuit.specs.Run.{forwards}
+use Rattle.running.specs.Run.{forwards}
 use Rattle.table.specs.Rows.{careOf, valueOf}
 use Rattle.fields.specs.Jobs.{dataWires, rows}
 use Rattle.layouts.specs.Layouts.{wireOf, layoutOk}

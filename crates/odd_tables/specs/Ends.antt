@@ -6,7 +6,7 @@ use lib.Count.{ones}
 use Rattle.logic.specs.Rules.{bit}
 use Rattle.logic.specs.Lists.{total, numbersFrom}
 use Rattle.gate.specs.Gates.{maskOf}
-use Rattle.circuit.specs.Run.{forwards}
+use Rattle.running.specs.Run.{forwards}
 
 -- "the end permutation of a list" on four data wires without an ancilla: the end value of each row, first row first
 abbrev pub endsOf : List ℕ → List ℕ

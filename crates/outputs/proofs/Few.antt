@@ -22,7 +22,7 @@ use Rattle.gate.specs.Gates.{lawful, gateOf}
 use Rattle.gate.specs.Inner.{firing, columnStep}
 use Rattle.gate.proofs.Widen.{parts}
 use Rattle.gate.proofs.Slices.{length-step}
-use Rattle.circuit.specs.Inner.{columnsAfter}
+use Rattle.running.specs.Inner.{columnsAfter}
 use Rattle.layouts.specs.Layouts.{Width, wireOf, layoutsFor}
 use Rattle.layouts.proofs.Layouts.{wire-within, wire-once, wire-fixed}
 use Rattle.columns.specs.declared.Wanted.{Wanted}

@@ -1,5 +1,5 @@
 // Long gate lists, a few gates at a time: each window of a list is a job for the search, and what is found takes its place where it is cheaper.
-use search::Searched;
+use outcomes::Searched;
 use windows::Prices;
 ghost use mathlib.Core.Path.{_≡_};
 ghost use Prim.Native.Nat.{_+_, _-_, _≤_};

@@ -19,8 +19,8 @@ use Rattle.logic.proofs.Below.{below}
 use Rattle.logic.proofs.Members.{among-nil, among-head, among-tail}
 use Rattle.gate.specs.Gates.{lawful, step}
 use Rattle.gate.proofs.Tables.{lawful-among}
-use Rattle.circuit.specs.Run.{forwards, backwards}
-use Rattle.circuit.proofs.Reversal.{stays, undone}
+use Rattle.running.specs.Run.{forwards, backwards}
+use Rattle.running.proofs.Reversal.{stays, undone}
 use Rattle.permutations.specs.Orders.{eight, Arranges, rowOf}
 use Rattle.permutations.specs.Sizes.{twelve, madeBy}
 use Rattle.permutations.proofs.Lists.{map-at, row-of-at}

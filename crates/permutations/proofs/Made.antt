@@ -16,8 +16,8 @@ use Rattle.logic.proofs.Fold.{along-append}
 use Rattle.logic.proofs.Members.{member-at, among-nil, among-cons, among-append}
 use Rattle.gate.specs.Gates.{step}
 use Rattle.gate.proofs.Tables.{among-lawful}
-use Rattle.circuit.specs.Run.{forwards}
-use Rattle.circuit.proofs.Reversal.{stays}
+use Rattle.running.specs.Run.{forwards}
+use Rattle.running.proofs.Reversal.{stays}
 use Rattle.choice.specs.Choices.{lists}
 use Rattle.choice.proofs.Enumeration.{lists-is, lists-has}
 use Rattle.permutations.specs.Orders.{eight, Arranges}

@@ -13,8 +13,8 @@ use Rattle.logic.specs.Lists.{allOf, Among}
 use Rattle.logic.proofs.Members.{numbers-at}
 use Rattle.gate.specs.Gates.{lawful}
 use Rattle.gate.proofs.Tables.{among-lawful}
-use Rattle.circuit.specs.Run.{forwards, backwards}
-use Rattle.circuit.proofs.Reversal.{stays, undone}
+use Rattle.running.specs.Run.{forwards, backwards}
+use Rattle.running.proofs.Reversal.{stays, undone}
 use Rattle.permutations.specs.Orders.{eight, permutations, Arranges, rankOf}
 use Rattle.permutations.specs.Sizes.{twelve, Makes, madeBy, sizeOf, sizes, cellOf}
 use Rattle.permutations.specs.Inner.{permutationAt}

@@ -7,7 +7,7 @@ use lib.Dec.{ltb, eqb}
 use lib.ListN.{getD}
 use Rattle.logic.specs.Rules.{either, pick, allBelow}
 use Rattle.gate.specs.Gates.{gatesFor}
-use Rattle.circuit.specs.Run.{forwards}
+use Rattle.running.specs.Run.{forwards}
 use Rattle.choice.specs.Choices.{lists}
 use Rattle.permutations.specs.Orders.{permutations, rankOf}
 

@@ -1,5 +1,5 @@
-// A lossy set of states in a slice of bits. A state is put in whole, without each wire, and without each two; so one can ask for a state of which
-// one or two wires are still open. A collision only makes the set larger.
+// What is asked of a lossy set of states in a slice of bits. Each state stands there whole, without each wire, and without each two; so one can
+// ask for a state of which one or two wires are still open. A collision only makes the set larger.
 use hashes::Reach;
 ghost use mathlib.Core.Path.{_≡_};
 ghost use mathlib.Core.Bool.{Bool, false, not};

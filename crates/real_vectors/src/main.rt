@@ -2,7 +2,7 @@
 // as it is. A line that is no call gets `bad line` and its number, so that a slip in the data is seen.
 use libc::STDOUT_FILENO;
 use real::Parsed;
-use real::Rendered;
+use real_text::Rendered;
 
 fn main() {
     run_file(b"reading");
@@ -157,7 +157,7 @@ fn write_into(circuit: &[u8], buffer: &mut [u8], n: usize) {
 }
 
 fn write_whole(circuit: &[u8], out: &mut [u8]) {
-    say_rendered(real::write_real(circuit, out));
+    say_rendered(real_text::write_real(circuit, out));
     data_lines::say(b" ");
     data_lines::say_bytes(out);
 }

@@ -1,9 +1,9 @@
--- What a record that breaks no rule is known to be: once for all rules of a job, once for all of a circuit.
+-- What a job that breaks no rule is known to be, once for all rules.
 use mathlib.Core.Path.{_≡_, ap, _∙_}
 use mathlib.Core.Bool.{Bool, true, false}
 use mathlib.Core.Logic.{_⊎_, inl, inr, ⊎-elim}
 use mathlib.Core.List.{List}
-use Prim.Native.Nat.{ℕ, zero, suc, _-_, _/_, _%_, _^_, _≤_}
+use Prim.Native.Nat.{ℕ, zero, suc, _-_, _%_, _^_, _≤_}
 use native.Mathlib.Omega.{arith}
 use borrow.Author.Tests.{eqb-true, leb-true}
 use lib.Dec.{eqb, leb, lit<}
@@ -11,18 +11,16 @@ use lib.Count.{ones}
 use lib.ListN.{length, getD, length-drop}
 use Rattle.logic.specs.Rules.{both, either, implies, pick, rule}
 use Rattle.logic.specs.Lists.{allOf}
-use Rattle.logic.proofs.Chain.{both-left, both-right, both-parts, either-cases, rule-kept}
+use Rattle.logic.proofs.Chain.{both-left, both-parts, either-cases, rule-kept}
 use Rattle.gate.specs.Gates.{maskOf, lawful, kindFor, gateOf}
 use Rattle.gate.proofs.Widen.{parts}
-use Rattle.gate.proofs.Tables.{all-widen}
 use Rattle.circuit.specs.Measure.{weightFor, weightOf}
-use Rattle.layouts.specs.Layouts.{Width, layoutOk}
+use Rattle.layouts.specs.Layouts.{Width}
 use Rattle.table.specs.Rows.{rowOk}
 use Rattle.fields.specs.Jobs.{longer, mostControls, dataWires, ancillas, wires, gateLimit, durations, durationOf, rows}
 use Rattle.record.specs.JobRules.{jobLengthOk, sizeOk, headOk, limitOk, durationsOk, rowsOk, jobCode}
-use Rattle.record.specs.CircuitRules.{circuitLengthOk, shapeOk, layoutInOrder, countOk, gatesOk, circuitCode}
-use Rattle.fields.specs.Circuits.{marked, controlsOf, layoutOf, gates}
-use Rattle.record.specs.Inner.{jobRest, circuitRest}
+use Rattle.record.specs.Inner.{jobRest}
+use Rattle.fields.proofs.Widths.{three-to-five}
 
 pub record SoundJob (job : List ℕ) : Type 0 where
   pub width : Width (dataWires job)
@@ -31,13 +29,6 @@ pub record SoundJob (job : List ℕ) : Type 0 where
   pub slow : (w b : ℕ) → lawful (mostControls job) w b ≡ true → 1 ≤ durationOf job b
   pub rows-many : length (rows job) ≡ 2 ^ dataWires job
   pub rows-ok : allOf (rowOk (dataWires job)) (rows job) ≡ true
-
-pub record SoundCircuit (c : List ℕ) : Type 0 where
-  pub width : Width (dataWires c)
-  pub spare : ancillas c ≤ 1
-  pub laid-out : layoutOk (dataWires c) (layoutOf c) ≡ true
-  pub few : length (gates c) ≤ 12
-  pub kept : allOf (lawful (controlsOf c) (wires c)) (gates c) ≡ true
 
 module _ (job : List ℕ) where
   sized : sizeOk job ≡ true
@@ -103,56 +94,5 @@ module _ (job : List ℕ) where
         rows-ok = k₆ .0;
       }
 
-module _ (c : List ℕ) where
-  pub long-enough : circuitLengthOk c ≡ true → 3 ≤ length c
-  unfolding circuitLengthOk
-  long-enough h = leb-true 3 (length c) (both-left (leb 3 (length c)) (leb (length c) 15) h)
-
-  pub short-enough : circuitLengthOk c ≡ true → length c ≤ 15
-  unfolding circuitLengthOk
-  short-enough h = leb-true (length c) 15 (both-right (leb 3 (length c)) (leb (length c) 15) h)
-
-  pub data-cases : shapeOk c ≡ true → Width (dataWires c)
-  unfolding shapeOk
-  data-cases h =
-      let d = either (eqb (dataWires c) 3) (eqb (dataWires c) 4) in
-      ⊎-elim (λ e. inl (eqb-true (dataWires c) 3 e)) (λ e. inr (eqb-true (dataWires c) 4 e))
-      (either-cases (eqb (dataWires c) 3) (eqb (dataWires c) 4) (both-left d (both (leb (ancillas c) 1) (eqb (getD c 0 0 / 2 % 4) 0)) h))
-
-  pub sound-circuit : circuitCode c ≡ 0 → SoundCircuit c
-  unfolding circuitCode circuitRest shapeOk
-  sound-circuit h =
-      let k₁ = rule-kept (circuitLengthOk c) 7 (rule (shapeOk c) 8 (circuitRest c)) (lit< tt) h in
-      let k₂ = rule-kept (shapeOk c) 8 (circuitRest c) (lit< tt) (k₁ .1) in
-      let k₃ = rule-kept (layoutInOrder c) 9 _ (lit< tt) (k₂ .1) in
-      let k₄ = rule-kept (countOk c) 10 _ (lit< tt) (k₃ .1) in
-      let k₅ = rule-kept (gatesOk c) 21 0 (lit< tt) (k₄ .1) in
-      let d = either (eqb (dataWires c) 3) (eqb (dataWires c) 4) in
-      let m = leb (ancillas c) 1 in
-      record {
-        width = data-cases (k₂ .0);
-        spare = leb-true (ancillas c) 1 (both-left m (eqb (getD c 0 0 / 2 % 4) 0) (both-right d (both m (eqb (getD c 0 0 / 2 % 4) 0)) (k₂ .0)));
-        laid-out = k₃ .0;
-        few = omega (arith, short-enough (k₁ .0), length-drop 3 c);
-        kept = k₅ .0;
-      }
-
--- two controls or three
-pub two-or-three : (more : Bool) → (2 ≤ pick more 3 2) × (pick more 3 2 ≤ 3)
-two-or-three true = (omega arith, omega arith)
-two-or-three false = (omega arith, omega arith)
-
--- a circuit that breaks no rule holds gates of at most three controls
-pub three-kept : (c : List ℕ) → SoundCircuit c → allOf (lawful 3 (wires c)) (gates c) ≡ true
-three-kept c s = all-widen (controlsOf c) (wires c) 3 (wires c) (two-or-three (marked c) .1) (omega arith) (gates c) (s .kept)
-
--- a record has three to five wires
-three-to-five : (r : List ℕ) → Width (dataWires r) → ancillas r ≤ 1 → (3 ≤ wires r) × (wires r ≤ 5)
-unfolding wires
-three-to-five r w m = ⊎-elim (λ e. (omega arith, omega arith)) (λ e. (omega arith, omega arith)) w
-
 pub wires-within : (job : List ℕ) → jobCode job ≡ 0 → (3 ≤ wires job) × (wires job ≤ 5)
 wires-within job h = let s = sound-job job h in three-to-five job (s .width) (s .spare)
-
-pub circuit-wires-within : (c : List ℕ) → circuitCode c ≡ 0 → (3 ≤ wires c) × (wires c ≤ 5)
-circuit-wires-within c h = let s = sound-circuit c h in three-to-five c (s .width) (s .spare)

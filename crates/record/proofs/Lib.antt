@@ -1,4 +1,3 @@
 pub mod Kept
-pub mod Eleven
-pub mod Written
 pub mod Long
+pub mod Never

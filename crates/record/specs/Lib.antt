@@ -1,4 +1,3 @@
 pub mod JobRules
-pub mod CircuitRules
 pub mod Answers
 pub mod Inner

@@ -2,7 +2,7 @@
 use mathlib.Core.Path.{_≡_, refl}
 use Rattle.logic.specs.Words.{bytes}
 use Rattle.pieces.specs.Text.{place, decimal, spaced, refusedLine}
-use Rattle.meanings.specs.Meanings.{said, otherMeaning, listingMeaning, libraryMeaning, verifyMeaning, circuitMeaning, meaning}
+use Rattle.sentences.specs.Meanings.{said, otherMeaning, listingMeaning, libraryMeaning, verifyMeaning, circuitMeaning, meaning}
 use Rattle.report.specs.Report.{passedLine, times, readyLine, passedText, refusedText}
 
 -- document 01's gates 21 43, at prices 1, 1, 5 and durations 1, 1, 7

@@ -5,7 +5,7 @@ use Rattle.logic.specs.Answers.{Answer, refused, answered}
 use Rattle.measures.specs.declared.Measures.{Measures}
 use Rattle.logic.specs.Words.{bytes}
 use Rattle.pieces.specs.Text.{decimal, spaced, lineFeed, refusedLine}
-use Rattle.meanings.specs.Meanings.{meaning}
+use Rattle.sentences.specs.Meanings.{meaning}
 
 -- `passed GATES COST DEPTH`
 unfoldable pub passedLine : Measures → List ℕ

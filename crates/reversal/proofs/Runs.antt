@@ -6,9 +6,9 @@ use Prim.Native.Nat.{ℕ, _^_, _≤_, _<_}
 use lib.ListN.{length, length-reverse}
 use Rattle.logic.specs.Lists.{allOf}
 use Rattle.gate.specs.Gates.{lawful, step}
-use Rattle.circuit.specs.Run.{forwards, backwards}
+use Rattle.running.specs.Run.{forwards, backwards}
 use Rattle.circuit.specs.Measure.{cost}
-use Rattle.circuit.proofs.Reversal.{undone}
+use Rattle.running.proofs.Reversal.{undone}
 use Rattle.reversal.proofs.Lists.{along-reverse, total-reverse, all-reverse}
 
 -- running the list backwards is running backwards

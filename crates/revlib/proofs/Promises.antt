@@ -11,7 +11,7 @@ use lib.Dec.{leb}
 use lib.ListN.{length}
 use Rattle.logic.specs.Rules.{pick}
 use Rattle.logic.specs.Answers.{Answer, refused, answered}
-use Rattle.record.specs.CircuitRules.{circuitCode}
+use Rattle.circuit_rules.specs.CircuitRules.{circuitCode}
 use Rattle.revlib.specs.Grammar.{Description, wellFormed, render, recordOf}
 use Rattle.revlib.specs.Reading.{parse, outcomeOf, readOf}
 use Rattle.revlib.specs.Demand.{Fits}

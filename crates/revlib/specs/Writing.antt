@@ -11,7 +11,7 @@ use Rattle.gate.specs.declared.Kind.the-variants.{Not, Cnot, Toffoli, Cccnot}
 use Rattle.gate.specs.Gates.{gateOf}
 use Rattle.layouts.specs.Layouts.{plain}
 use Rattle.fields.specs.Jobs.{dataWires, ancillas, wires}
-use Rattle.record.specs.CircuitRules.{circuitCode}
+use Rattle.circuit_rules.specs.CircuitRules.{circuitCode}
 use Rattle.fields.specs.Circuits.{marked, layoutOf, gates}
 use Rattle.revlib.specs.Grammar.{Constants, unsaid, oneAncilla, Description, render}
 

@@ -14,14 +14,16 @@ use Rattle.layouts.specs.Layouts.{layoutOk, allowed, layoutsFor}
 use Rattle.table.specs.Rows.{rowOk, bitAgrees, rowAgrees, agreesFrom, clean, realizes}
 use Rattle.fields.specs.Jobs.{longer, dataWires, ancillas, wires, freeLayout, gateLimit, costLimit, depthLimit, prices, durations}
 use Rattle.record.specs.JobRules.{jobLengthOk, sizeOk, headOk, limitOk, durationsOk, rowsOk, jobCode}
-use Rattle.record.specs.CircuitRules.{circuitLengthOk, shapeOk, circuitCode}
+use Rattle.circuit_rules.specs.CircuitRules.{circuitLengthOk, shapeOk, circuitCode}
 use Rattle.fields.specs.Circuits.{marked, layoutOf, countOf, circuitBytes}
 use Rattle.measures.specs.Measures.{measuresOf}
-use Rattle.verify.specs.Calls.{runCode, runOf, sameWires, markFits, circuitCodeFor, measureCode, measureOf, limitsCode, verifyRest, verifyCode, verifyOf}
+use Rattle.verify.specs.Calls.{sameWires, markFits, circuitCodeFor, measureCode, measureOf, verifyRest, verifyCode, verifyOf}
+use Rattle.limits.specs.Limits.{limitsCode}
+use Rattle.runs.specs.Runs.{runCode, runOf}
 use Rattle.parity.specs.Parity.{full, distinct, permutes, smaller, inversions, tableParity, parityOf}
 use Rattle.choice.specs.Choices.{lexLess, before, keep, attempt, improve, under}
 use Rattle.problem.specs.Problems.{choiceOf, here, within, firstGood}
-use Rattle.search.specs.Outcomes.{problemOver, recordOf, searchOver, searchCode, searchOf}
+use Rattle.outcomes.specs.Outcomes.{problemOver, recordOf, searchOver, searchCode, searchOf}
 use Rattle.samples.specs.Table.{Sample, holds, samples, failing}
 
 pub all-hold : failing 1 samples ≡ 0

@@ -13,14 +13,15 @@ use Rattle.gate.specs.Gates.{maskOf, lawful, step, gateOf}
 use Rattle.circuit.specs.declared.Weights.{Weights}
 use Rattle.circuit.specs.Measure.{weightOf, cost, depth}
 use Rattle.record.specs.JobRules.{jobCode}
-use Rattle.record.specs.CircuitRules.{circuitCode}
+use Rattle.circuit_rules.specs.CircuitRules.{circuitCode}
 use Rattle.record.specs.Answers.{checkOf}
 use Rattle.measures.specs.declared.Measures.{Measures}
 use Rattle.measures.specs.Measures.{readyOf}
-use Rattle.verify.specs.Calls.{forwardsOf, backwardsOf, measureOf, verifyOf}
+use Rattle.verify.specs.Calls.{measureOf, verifyOf}
+use Rattle.runs.specs.Runs.{forwardsOf, backwardsOf}
 use Rattle.parity.specs.Parity.{Parity, even, odd, neither, parityOf}
 use Rattle.choice.specs.Choices.{lexLess}
-use Rattle.search.specs.Outcomes.{Found, searchOf}
+use Rattle.outcomes.specs.Outcomes.{Found, searchOf}
 
 pub data Sample : Type 0 where
   toffoli : (byte target low high : ℕ) → Sample

@@ -7,7 +7,7 @@ use lib.ListN.{getD, set, replicate}
 use Rattle.logic.specs.Rules.{pick, rule}
 use Rattle.logic.specs.Answers.{Answer, refused, answerOf}
 use Rattle.record.specs.JobRules.{jobCode}
-use Rattle.search.specs.Outcomes.{Found}
+use Rattle.outcomes.specs.Outcomes.{Found}
 use Rattle.slot.specs.Slots.{Slot, empty, isEmpty, isWorking, isFinished, begun, tried, resultOf}
 
 pub record State : Type 0 where

@@ -1,10 +1,10 @@
 // Eight slots share the machine: jobs are posted to slots, each turn tries one candidate of the next working slot, and answers are collected.
-use search::Searched;
+use outcomes::Searched;
 use slot::Entry;
 ghost use mathlib.Core.Path.{_≡_};
 ghost use Prim.Native.Nat.{_≤_, _%_};
 ghost use lib.ListN.{length};
-ghost use Rattle.search.specs.Outcomes.{reported, written, searchedAnswer, sizeIn};
+ghost use Rattle.outcomes.specs.Outcomes.{reported, written, searchedAnswer, sizeIn};
 ghost use Rattle.slot.specs.View.{viewEntry};
 ghost use Rattle.scheduler.specs.States.{startState, slotAt, withSlot, postCode, postOf, afterPost, servedBy, afterTurn, collectCode, collectOf, afterCollect};
 ghost use Rattle.scheduler.specs.Calls.{viewState, postingAnswer, serviceAnswer};

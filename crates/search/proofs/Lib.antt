@@ -1,5 +1,1 @@
-pub mod Facts
-pub mod Verified
-pub mod Answer
 pub mod Posed
-pub mod Told

@@ -12,17 +12,19 @@ use Rattle.logic.specs.Lists.{Among}
 use Rattle.logic.proofs.Members.{member-at, among-all}
 use Rattle.gate.specs.Gates.{lawful}
 use Rattle.gate.proofs.Widen.{widen, parts}
-use Rattle.circuit.specs.Inner.{columnsAfter}
+use Rattle.running.specs.Inner.{columnsAfter}
 use Rattle.table.specs.Rows.{realizes}
 use Rattle.record.specs.JobRules.{jobCode}
 use Rattle.fields.specs.Jobs.{longer, mostControls, dataWires, wires, rows}
-use Rattle.record.proofs.Kept.{sound-job, wires-within, two-or-three}
+use Rattle.record.proofs.Kept.{sound-job, wires-within}
+use Rattle.fields.proofs.Widths.{two-or-three}
 use Rattle.columns.specs.Wanted.{wantedOf, columnsOf, startColumns, reached}
 use Rattle.columns.proofs.Agreement.{met-agrees, tidy-clean}
 use Rattle.states.specs.declared.Task.{Task}
 use Rattle.states.specs.States.{Slices, Fair, Asks, Posed, Limited}
-use Rattle.search.specs.Outcomes.{GateSet, problemOver}
-use Rattle.search.specs.Inner.{taskOf, Lawfuls, Tabled}
+use Rattle.outcomes.specs.Outcomes.{GateSet, problemOver}
+use Rattle.outcomes.specs.Inner.{Lawfuls, Tabled}
+use Rattle.search.specs.Inner.{taskOf}
 
 -- gates of a job have at most two or three controls
 two-three : (more : Bool) → (pick {A = ℕ} more 3 2 ≡ 2) ⊎ (pick {A = ℕ} more 3 2 ≡ 3)

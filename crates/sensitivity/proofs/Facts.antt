@@ -21,18 +21,18 @@ use Rattle.record.specs.JobRules.{jobCode}
 use Rattle.fields.specs.Jobs.{longer, dataWires, ancillas, costLimit}
 use Rattle.fields.specs.Circuits.{gates}
 use Rattle.record.proofs.Kept.{sound-job}
-use Rattle.record.proofs.Written as Written
+use Rattle.circuit_rules.proofs.Written as Written
 use Rattle.measures.specs.declared.Measures.{Measures}
 use Rattle.measures.specs.Measures.{measuresOf}
 use Rattle.problem.specs.Demand.{Winner}
-use Rattle.search.specs.Outcomes.{problemOver, problemOf, recordOf, Found, reported, searchOf}
-use Rattle.search.proofs.Facts as Search
+use Rattle.outcomes.specs.Outcomes.{problemOver, problemOf, recordOf, Found, reported, searchOf}
+use Rattle.outcomes.proofs.Facts as Search
 use Rattle.alike.specs.Alike.{priceCount, pricePlace, sameBut, alikeBut, onePrice, comparable, compareCode, costDifference}
 use Rattle.sensitivity.specs.Calls.{changeBetween, priceChange}
-use Rattle.sensitivity.specs.Demand.{ofKind, kindCount, Roomy, Bytes}
+use Rattle.repriced.specs.Demand.{ofKind, kindCount, Roomy, Bytes}
 use Rattle.alike.proofs.Whole.{no-less, no-more, no-change}
-use Rattle.sensitivity.proofs.Problems.{turned, solves-too, winners-apart}
-use Rattle.sensitivity.proofs.Jobs.{Changed, changed-is, other-way, alike, raised, roomy}
+use Rattle.repriced.proofs.Problems.{turned, solves-too, winners-apart}
+use Rattle.repriced.proofs.Jobs.{Changed, changed-is, other-way, alike, raised, roomy}
 
 -- what two jobs that may be compared are known to be
 pub record Compared (old new : List ℕ) : Type 0 where

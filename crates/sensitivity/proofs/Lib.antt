@@ -1,3 +1,1 @@
-pub mod Problems
-pub mod Jobs
 pub mod Facts

@@ -5,7 +5,7 @@ use lib.Dec.{eqb}
 use lib.IntN.{ℤ}
 use Rattle.logic.specs.Rules.{pick}
 use Rattle.logic.specs.Answers.{Answer, refused, answered}
-use Rattle.search.specs.Outcomes.{Reported, reported, searchOf}
+use Rattle.outcomes.specs.Outcomes.{Reported, reported, searchOf}
 use Rattle.sensitivity.specs.declared.Change.{Change}
 use Rattle.alike.specs.Alike.{compareCode, costDifference}
 

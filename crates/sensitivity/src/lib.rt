@@ -1,7 +1,7 @@
 // What a change of one price does to the least cost.
-use search::Searched;
+use outcomes::Searched;
 ghost use mathlib.Core.Path.{_≡_};
-ghost use Rattle.search.specs.Outcomes.{searchOf, reported, searchedAnswer};
+ghost use Rattle.outcomes.specs.Outcomes.{searchOf, reported, searchedAnswer};
 ghost use Rattle.sensitivity.specs.Calls.{changeBetween, priceChange, changeAnswer};
 
 // What the comparison answers: a refusal's number, or the new least cost less the old.

@@ -18,7 +18,8 @@ use Rattle.layouts.specs.Layouts.{Width, layoutsFor, layoutOk}
 use Rattle.layouts.proofs.Named.{fixed}
 use Rattle.fields.specs.Jobs.{longer, mostControls, dataWires, wires, freeLayout}
 use Rattle.record.specs.JobRules.{jobCode}
-use Rattle.record.proofs.Kept.{sound-job, wires-within, two-or-three}
+use Rattle.record.proofs.Kept.{sound-job, wires-within}
+use Rattle.fields.proofs.Widths.{two-or-three}
 use lib.Count.{ones, onesIn}
 
 abbrev some : ℕ → ℕ → Bool

@@ -18,7 +18,7 @@ use Rattle.choice.specs.declared.Best.{Best}
 use Rattle.choice.specs.Choices.{Choice, attempt}
 use Rattle.choice.specs.Inner.{view}
 use Rattle.problem.specs.Problems.{Problem, good}
-use Rattle.search.specs.Outcomes.{problemOver, problemOf}
+use Rattle.outcomes.specs.Outcomes.{problemOver, problemOf}
 use Rattle.candidates.specs.declared.Next.{Next}
 use Rattle.candidates.specs.Inner.{left, digitsAt, currentAt, afterAt, leftAt, remaining}
 use Rattle.candidates.proofs.Odometer.{all-left}

@@ -7,7 +7,7 @@ use Prim.Native.Nat.{ℕ}
 use lib.Dec.{leb}
 use lib.ListN.{length, take}
 use Rattle.logic.specs.Rules.{both, pick}
-use Rattle.circuit.specs.Run.{forwards}
+use Rattle.running.specs.Run.{forwards}
 use Rattle.table.specs.Rows.{agrees, clean, realizes}
 use Rattle.fields.specs.Jobs.{dataWires, rows, costLimit, depthLimit, priceOf, durationOf}
 use Rattle.measures.specs.declared.Measures.{Measures}
@@ -17,8 +17,8 @@ use Rattle.choice.specs.Choices.{Choice, keep, attempt}
 use Rattle.choice.specs.Inner.{choice, view}
 use Rattle.choice.proofs.First.{attempt-not}
 use Rattle.problem.specs.Problems.{choiceOf, within, good}
-use Rattle.search.specs.Outcomes.{problemOver, problemOf, ownSet, outcomeOf}
-use Rattle.search.specs.Inner.{toldOf}
+use Rattle.outcomes.specs.Outcomes.{problemOver, problemOf, ownSet, outcomeOf}
+use Rattle.outcomes.specs.Inner.{toldOf}
 use Rattle.slot.specs.Inner.{doesFor}
 
 -- the test, from its parts

@@ -6,7 +6,7 @@ use Prim.Native.Nat.{ℕ}
 use Rattle.logic.specs.Answers.{Answer, refused}
 use Rattle.choice.specs.Choices.{Choice, attempt}
 use Rattle.problem.specs.Problems.{good}
-use Rattle.search.specs.Outcomes.{problemOf, ownSet, Found, outcomeOf}
+use Rattle.outcomes.specs.Outcomes.{problemOf, ownSet, Found, outcomeOf}
 use Rattle.candidates.specs.Candidates.{candidates}
 
 -- empty; working on a job, with the candidates left and the best that it holds; or finished, with what it held at the end

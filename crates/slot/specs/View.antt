@@ -8,7 +8,7 @@ use lib.ListN.{take}
 use Rattle.logic.specs.Rules.{both, pick}
 use Rattle.record.specs.JobRules.{jobCode}
 use Rattle.choice.specs.Inner.{view}
-use Rattle.search.specs.Outcomes.{problemOf}
+use Rattle.outcomes.specs.Outcomes.{problemOf}
 use Rattle.candidates.specs.Inner.{leftAt}
 use Rattle.slot.specs.declared.Entry.{Entry}
 use Rattle.slot.specs.Slots.{Slot, empty, working, finished}

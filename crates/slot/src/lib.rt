@@ -3,7 +3,7 @@ use candidates::Next;
 use candidates::Place;
 use choice::Best;
 use measures::Measures;
-use search::Searched;
+use outcomes::Searched;
 ghost use mathlib.Core.Path.{_≡_};
 ghost use mathlib.Core.Bool.{true};
 ghost use Prim.Native.Nat.{_≤_};
@@ -15,7 +15,7 @@ ghost use Rattle.record.specs.JobRules.{jobCode};
 ghost use Rattle.choice.specs.Choices.{attempt};
 ghost use Rattle.choice.specs.Inner.{view};
 ghost use Rattle.problem.specs.Problems.{choiceOf, good};
-ghost use Rattle.search.specs.Outcomes.{problemOf, reported, written, searchedAnswer, sizeIn};
+ghost use Rattle.outcomes.specs.Outcomes.{problemOf, reported, written, searchedAnswer, sizeIn};
 ghost use Rattle.candidates.specs.Inner.{chosen, digitsAt, currentAt, afterAt, remaining};
 ghost use Rattle.slot.specs.Slots.{empty, isEmpty, isWorking, isFinished, begun, tried, resultOf};
 ghost use Rattle.slot.specs.View.{soundOf, stageOf, viewEntry};
@@ -156,7 +156,7 @@ fn consider(job: &[u8], path: [u8; 12], len: usize, layout: u8, best: Best) -> B
     ensures { λ r. ⌜ view r ≡ attempt (good (problemOf (now (job .entry)))) (view best) (choiceOf (problemOf (now (job .entry))) (take len path) layout) ⌝ }
     ensures { λ r. ⌜ r .len ≤ 12 ⌝ }
 {
-    let m = search::measures_of(job, path, len);
+    let m = outcomes::measures_of(job, path, len);
     if !does_for(job, &path[..len], layout, m) {
         return best;
     }
@@ -229,6 +229,6 @@ pub fn tell(e: Entry, answer: &mut [u8]) -> Searched
     let best = e.best;
     let path = best.path;
     let job = &bytes[..size];
-    let measures = search::measures_of(job, path, best.len);
-    search::tell(job, best, measures, answer)
+    let measures = outcomes::measures_of(job, path, best.len);
+    outcomes::tell(job, best, measures, answer)
 }

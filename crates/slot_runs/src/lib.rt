@@ -1,15 +1,15 @@
 // Two programs over the scheduler: one works through a file of jobs, the other through a script of posts, turns and collects.
 use libc::STDOUT_FILENO;
 use measures::Measures;
+use outcomes::Searched;
 use scheduler::Posting;
 use scheduler::Service;
 use scheduler::Slots;
-use search::Searched;
 ghost use mathlib.Core.Path.{_≡_};
 ghost use Prim.Native.Nat.{_≤_, _<_};
 ghost use lib.ListN.{length};
 ghost use Rattle.cutting.specs.Records.{countOf};
-ghost use Rattle.search.specs.Outcomes.{sizeIn};
+ghost use Rattle.outcomes.specs.Outcomes.{sizeIn};
 
 fn say(text: &[u8]) {
     io::write_all(STDOUT_FILENO, text);

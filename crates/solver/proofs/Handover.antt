@@ -8,7 +8,7 @@ use native.Mathlib.Omega.{arith}
 use Rattle.choice.specs.declared.Best.{Best}
 use Rattle.choice.specs.Inner.{view}
 use Rattle.problem.specs.Problems.{Problem, firstGood}
-use Rattle.problem.specs.Inner.{Past}
+use Rattle.problem.specs.Inner.{Past, Dearer}
 use Rattle.problem.proofs.Limits.{never}
 use Rattle.hashes.specs.declared.Reach.{Reach}
 use Rattle.filters.specs.Sieve.{Sieve}
@@ -47,3 +47,7 @@ module _ (P : Problem) where
 
   pub none-good : (o : Outcome) → o .done ≡ false → Settled P (P .mostGates) o → firstGood P ≡ none
   none-good o f s = never P (s .failed f)
+
+  -- nothing costs less than 0
+  pub none-below : Dearer P 0
+  none-below = record { cost-least = λ a m h. omega arith }

@@ -13,7 +13,7 @@ use lib.ListN.{length, getD}
 use Rattle.logic.specs.Lists.{along}
 use Rattle.logic.proofs.Below.{below}
 use Rattle.logic.proofs.Xor.{linear-zero, and-assoc, and-xor, xor-none}
-use Rattle.circuit.specs.Inner.{columnsAfter}
+use Rattle.running.specs.Inner.{columnsAfter}
 use Rattle.layouts.specs.Layouts.{wireOf}
 use Rattle.columns.specs.declared.Wanted.{Wanted}
 use Rattle.columns.specs.Wanted.{misses, fits, met}

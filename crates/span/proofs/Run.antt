@@ -14,7 +14,7 @@ use Rattle.logic.specs.Rules.{pick}
 use Rattle.logic.specs.Lists.{along, total}
 use Rattle.gate.specs.Gates.{maskOf, lowest, kindFor, gateOf}
 use Rattle.gate.specs.Inner.{firing, columnStep}
-use Rattle.circuit.specs.Inner.{columnsAfter}
+use Rattle.running.specs.Inner.{columnsAfter}
 use Rattle.budget.specs.Heavy.{heavy, heavies}
 use Rattle.logic.proofs.Xor.{Linear}
 use Rattle.span.proofs.Spanned.{Span, span-zero, span-xor}

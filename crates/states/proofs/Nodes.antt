@@ -18,8 +18,8 @@ use Rattle.logic.proofs.Members.{among-nil, among-cons, among-append, among-all
 use Rattle.gate.specs.Gates.{lawful, gateOf}
 use Rattle.gate.specs.Inner.{columnStep}
 use Rattle.circuit.specs.Measure.{cost, depth, greatest, hold, holdByte, idle, readyTimes}
-use Rattle.circuit.specs.Inner.{columnsOver, columnsAfter}
-use Rattle.circuit.proofs.Reversal.{columns-length}
+use Rattle.running.specs.Inner.{columnsOver, columnsAfter}
+use Rattle.running.proofs.Reversal.{columns-length}
 use Rattle.layouts.specs.Layouts.{layoutsFor}
 use Rattle.columns.specs.Wanted.{startColumns, met, tidy, reached}
 use Rattle.columns.specs.Finish.{Finish}

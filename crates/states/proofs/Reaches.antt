@@ -17,7 +17,7 @@ use Rattle.logic.proofs.Members.{among-cons, among-nil, among-append}
 use Rattle.gate.specs.Gates.{targetOf, gateOf}
 use Rattle.gate.specs.Inner.{columnStep}
 use Rattle.circuit.specs.Measure.{cost}
-use Rattle.circuit.specs.Inner.{columnsAfter}
+use Rattle.running.specs.Inner.{columnsAfter}
 use Rattle.columns.specs.Wanted.{startColumns}
 use Rattle.columns.specs.Finish.{Finish}
 use Rattle.choice.specs.Choices.{Choice, attempt, improve}

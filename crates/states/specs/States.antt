@@ -9,7 +9,7 @@ use lib.ListN.{length, getD, take}
 use Rattle.logic.specs.Lists.{Among}
 use Rattle.gate.specs.Gates.{targetOf, lawful}
 use Rattle.circuit.specs.Measure.{cost, readyTimes}
-use Rattle.circuit.specs.Inner.{columnsAfter}
+use Rattle.running.specs.Inner.{columnsAfter}
 use Rattle.layouts.specs.Layouts.{Width, layoutsFor}
 use Rattle.columns.specs.Wanted.{startColumns, reached}
 use Rattle.choice.specs.Choices.{Choice}

@@ -17,8 +17,8 @@ use Rattle.logic.proofs.Chain.{both-left, both-right, both-true, not-so, implie
 use Rattle.logic.proofs.Below.{below}
 use Rattle.logic.proofs.Counts.{same-truth, all-below}
 use Rattle.gate.specs.Gates.{lawful}
-use Rattle.circuit.specs.Run.{forwards}
-use Rattle.circuit.proofs.Reversal.{stays}
+use Rattle.running.specs.Run.{forwards}
+use Rattle.running.proofs.Reversal.{stays}
 use Rattle.layouts.specs.Layouts.{wireOf}
 use Rattle.table.specs.Rows.{careOf, valueOf, bitAgrees, rowAgrees, agreesFrom, agrees, atZero, clean, realizes}
 

@@ -6,7 +6,7 @@ use lib.Bits.{bitAnd}
 use lib.Dec.{ltb, eqb}
 use Rattle.logic.specs.Rules.{both, implies, allBelow}
 use Rattle.logic.specs.Bit.{bitOf}
-use Rattle.circuit.specs.Run.{forwards}
+use Rattle.running.specs.Run.{forwards}
 use Rattle.layouts.specs.Layouts.{wireOf}
 
 -- "one byte a row: wanted-bits mask in the high four bits, value in the low four"; the care mask is the wanted-bits mask

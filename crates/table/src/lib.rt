@@ -1,8 +1,8 @@
-// What a table asks for: rows of a care mask and a value, the final layouts, and whether a gate list agrees with the rows and leaves the ancilla at 0.
+// What a table asks for: rows of a care mask and a value, and whether a gate list agrees with the rows and leaves the ancilla at 0.
 ghost use mathlib.Core.Path.{_≡_};
 ghost use Prim.Native.Nat.{_<_};
 ghost use Rattle.logic.specs.Lists.{allOf};
-ghost use Rattle.circuit.specs.Run.{forwards};
+ghost use Rattle.running.specs.Run.{forwards};
 ghost use Rattle.table.specs.Rows.{rowOk, bitAgrees, rowAgrees, agrees, clean};
 
 fn row_ok(n: usize, row: u8) -> bool
@@ -62,7 +62,7 @@ pub fn agrees(p: u8, list: &[u8], rows: &[u8]) -> bool
 {
     let mut x = 0;
     while x < rows.len() {
-        if !row_agrees(p, rows[x], circuit::forwards(list, x)) {
+        if !row_agrees(p, rows[x], running::forwards(list, x)) {
             return false;
         }
         x += 1;
@@ -77,7 +77,7 @@ pub fn clean(n: usize, list: &[u8]) -> bool
 {
     let mut x = 0;
     while x < (1 << n) {
-        if (circuit::forwards(list, x) >> n) % 2 != 0 {
+        if (running::forwards(list, x) >> n) % 2 != 0 {
             return false;
         }
         x += 1;

@@ -9,9 +9,9 @@ use lib.Dec.{eqb}
 use Rattle.logic.specs.Rules.{pick}
 use Rattle.logic.proofs.Chain.{both-left}
 use Rattle.fields.specs.Jobs.{dataWires}
-use Rattle.record.specs.CircuitRules.{circuitLengthOk, shapeOk, circuitCode}
+use Rattle.circuit_rules.specs.CircuitRules.{circuitLengthOk, shapeOk, circuitCode}
 use Rattle.revlib.specs.Reading.{starts}
-use Rattle.verdicts.specs.Files.{isText}
+use Rattle.rooms.specs.Files.{isText}
 
 refused-so : (sized : Bool) → _≡_ {A = ℕ} (pick sized 8 7) 0 → ⊥
 refused-so true h = omega arith

@@ -7,31 +7,7 @@ ghost use lib.ListN.{length};
 ghost use Rattle.verify.specs.Calls.{measuredAnswer};
 ghost use Rattle.pieces.specs.Text.{inFront};
 ghost use Rattle.revlib.specs.Reading.{readOf};
-ghost use Rattle.verdicts.specs.Files.{isText, given, verdict, judged, verifyFile, verifyText, TellingJob, TellingCircuit, TellingLibrary};
-
-// How many bytes of a job are enough: one more than the longest has.
-pub fn job_room() -> usize
-    ensures { λ r. ⌜ TellingJob r ⌝ }
-    ensures { λ r. ⌜ r ≤ 4096 ⌝ }
-{
-    31
-}
-
-// How many bytes of a circuit's file are enough: one more than the longest text has.
-pub fn circuit_room() -> usize
-    ensures { λ r. ⌜ TellingCircuit r ⌝ }
-    ensures { λ r. ⌜ r ≤ 65536 ⌝ }
-{
-    4097
-}
-
-// How many bytes of a library are enough: one more than the longest has.
-pub fn library_room() -> usize
-    ensures { λ r. ⌜ TellingLibrary r ⌝ }
-    ensures { λ r. ⌜ r ≤ 4096 ⌝ }
-{
-    226
-}
+ghost use Rattle.rooms.specs.Files.{isText, given, verdict, judged, verifyFile, verifyText};
 
 fn is_text(file: &[u8]) -> bool
     ensures { λ r. ⌜ r ≡ isText (now (file .entry)) ⌝ }
@@ -44,7 +20,7 @@ fn verdict(job: &[u8], named: bool, library: &[u8], circuit: &[u8]) -> Measured
     ensures { λ r. ⌜ measuredAnswer r ≡ verdict (now (job .entry)) (given named (now (library .entry))) (now (circuit .entry)) ⌝ }
 {
     if named {
-        library::verify_with(job, library, circuit)
+        libraries::verify_with(job, library, circuit)
     } else {
         verify::verify(job, circuit)
     }

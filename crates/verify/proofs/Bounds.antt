@@ -20,9 +20,10 @@ use Rattle.circuit.proofs.Prefix.{depth-most}
 use Rattle.circuit.proofs.Gatebound.{roundedUp, gates-by-depth, depth-least}
 use Rattle.record.specs.JobRules.{jobCode}
 use Rattle.fields.specs.Jobs.{longer, mostControls, dataWires, ancillas, wires, durationOf}
-use Rattle.record.specs.CircuitRules.{circuitCode}
+use Rattle.circuit_rules.specs.CircuitRules.{circuitCode}
 use Rattle.fields.specs.Circuits.{marked, controlsOf, gates}
-use Rattle.record.proofs.Kept.{sound-job, sound-circuit, wires-within}
+use Rattle.record.proofs.Kept.{sound-job, wires-within}
+use Rattle.circuit_rules.proofs.Sound.{sound-circuit}
 use Rattle.measures.specs.declared.Measures.{Measures}
 use Rattle.measures.specs.Measures.{measuresOf}
 use Rattle.verify.specs.Calls.{measuresFor, sameWires, markFits, measureCode, measureOf}

@@ -1,31 +1,24 @@
 -- No call that takes a circuit refuses with 11, whatever bytes it is handed.
 use mathlib.Core.Path.{_≡_}
-use mathlib.Core.Bool.{Bool}
 use mathlib.Core.List.{List}
-use Prim.Native.Nat.{ℕ, _^_}
+use Prim.Native.Nat.{ℕ}
 use native.Mathlib.Omega.{arith}
-use lib.Dec.{ltb, leb}
-use Rattle.logic.specs.Rules.{pick}
 use Rattle.logic.specs.Answers.{refused}
 use Rattle.logic.proofs.Answers.{refused-is}
 use Rattle.logic.proofs.Chain.{rule-never, and-then-never}
-use Rattle.circuit.specs.Run.{forwards, backwards}
+use Rattle.running.specs.Run.{forwards}
 use Rattle.layouts.specs.Layouts.{allowed}
 use Rattle.table.specs.Rows.{agrees, clean}
 use Rattle.record.specs.JobRules.{jobCode}
-use Rattle.fields.specs.Jobs.{dataWires, wires, freeLayout, gateLimit, costLimit, depthLimit, rows}
-use Rattle.record.specs.CircuitRules.{circuitCode}
+use Rattle.fields.specs.Jobs.{dataWires, freeLayout, rows}
+use Rattle.circuit_rules.specs.CircuitRules.{circuitCode}
 use Rattle.fields.specs.Circuits.{layoutOf, gates}
-use Rattle.record.proofs.Eleven.{circuit-never, job-never}
+use Rattle.circuit_rules.proofs.Eleven.{circuit-never}
+use Rattle.record.proofs.Never.{job-never}
 use Rattle.measures.specs.declared.Measures.{Measures}
-use Rattle.verify.specs.Calls.{runCode, runOf, measuresFor, sameWires, markFits, circuitCodeFor, measureCode, measureOf}
-use Rattle.verify.specs.Calls.{limitsCode, verifyRest, verifyCode, verifyOf}
-
-pub run-never : (forth : Bool) (c : List ℕ) (v : ℕ) → runOf forth c v ≡ refused 11 → ⊥
-unfolding runOf runCode
-run-never forth c v h =
-    and-then-never 11 (circuitCode c) _ (circuit-never c) (rule-never 11 (ltb v (2 ^ wires c)) 20 0 (λ e. omega arith) (λ e. omega arith))
-    (refused-is (runCode c v) (pick forth (forwards (gates c) v) (backwards (gates c) v)) 11 h)
+use Rattle.verify.specs.Calls.{measuresFor, sameWires, markFits, circuitCodeFor, measureCode, measureOf}
+use Rattle.verify.specs.Calls.{verifyRest, verifyCode, verifyOf}
+use Rattle.limits.proofs.Within.{limits-never}
 
 module _ (job c : List ℕ) where
   pub circuit-for-never : circuitCodeFor job c ≡ 11 → ⊥
@@ -39,19 +32,12 @@ module _ (job c : List ℕ) where
   unfolding measureCode
   measure-code-never = and-then-never 11 (jobCode job) _ (job-never job) circuit-for-never
 
-  limits-never : (m : Measures) → limitsCode job m ≡ 11 → ⊥
-  unfolding limitsCode
-  limits-never m =
-      rule-never 11 (leb (m .gates) (gateLimit job)) 17 _ (λ e. omega arith)
-      (rule-never 11 (leb (m .cost) (costLimit job)) 18 _ (λ e. omega arith)
-      (rule-never 11 (leb (m .depth) (depthLimit job)) 19 0 (λ e. omega arith) (λ e. omega arith)))
-
   pub rest-never : (m : Measures) → verifyRest job c m ≡ 11 → ⊥
   unfolding verifyRest
   rest-never m =
       rule-never 11 (allowed (dataWires job) (freeLayout job) (layoutOf c)) 15 _ (λ e. omega arith)
       (rule-never 11 (agrees (layoutOf c) (forwards (gates c)) (rows job)) 16 _ (λ e. omega arith)
-      (rule-never 11 (clean (dataWires job) (forwards (gates c))) 24 _ (λ e. omega arith) (limits-never m)))
+      (rule-never 11 (clean (dataWires job) (forwards (gates c))) 24 _ (λ e. omega arith) (limits-never job m)))
 
   pub measure-never : measureOf job c ≡ refused 11 → ⊥
   unfolding measureOf

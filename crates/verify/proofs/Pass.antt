@@ -10,7 +10,7 @@ use lib.ListN.{length}
 use Rattle.logic.specs.Answers.{answered}
 use Rattle.logic.proofs.Answers.{answered-with, answered-is}
 use Rattle.logic.proofs.Chain.{both-left, both-right, rule-kept, and-then-zero}
-use Rattle.circuit.specs.Run.{forwards}
+use Rattle.running.specs.Run.{forwards}
 use Rattle.circuit.specs.Measure.{cost, depth}
 use Rattle.layouts.specs.Layouts.{allowed}
 use Rattle.table.specs.Rows.{agrees, clean}
@@ -20,7 +20,8 @@ use Rattle.fields.specs.Jobs.{dataWires, ancillas, freeLayout, gateLimit, costL
 use Rattle.fields.specs.Circuits.{layoutOf, gates}
 use Rattle.measures.specs.declared.Measures.{Measures}
 use Rattle.measures.specs.Measures.{measuresOf}
-use Rattle.verify.specs.Calls.{measuresFor, sameWires, circuitCodeFor, measureCode, limitsCode, verifyRest, verifyCode, verifyOf}
+use Rattle.verify.specs.Calls.{measuresFor, sameWires, circuitCodeFor, measureCode, verifyRest, verifyCode, verifyOf}
+use Rattle.limits.specs.Limits.{limitsCode}
 use Rattle.verify.specs.Demand.{PassesAt, Passes}
 use Rattle.verify.proofs.Codes.{circuit-parts}
 

@@ -1,7 +1,7 @@
 -- The ready times in an answer: they are those of the circuit, their greatest is the depth, and a wire that the circuit lacks has 0.
 use mathlib.Core.Path.{_≡_, refl, sym, ap, _∙_}
 use mathlib.Core.List.{List, [], _∷_}
-use Prim.Native.Nat.{ℕ, _≤_}
+use Prim.Native.Nat.{ℕ}
 use lib.ListN.{length, getD}
 use Rattle.logic.specs.Lists.{along}
 use Rattle.logic.specs.Answers.{answered}
@@ -12,9 +12,9 @@ use Rattle.circuit.specs.Measure.{holdByte, idle, readyTimes, greatest}
 use Rattle.circuit.proofs.Times.{length-hold}
 use Rattle.circuit.proofs.Gatebound.{quiet-ready}
 use Rattle.fields.specs.Jobs.{wires, priceOf, durationOf}
-use Rattle.record.specs.CircuitRules.{circuitCode}
+use Rattle.circuit_rules.specs.CircuitRules.{circuitCode}
 use Rattle.fields.specs.Circuits.{controlsOf, gates}
-use Rattle.record.proofs.Kept.{sound-circuit, circuit-wires-within}
+use Rattle.circuit_rules.proofs.Sound.{sound-circuit, circuit-wires-within}
 use Rattle.measures.specs.declared.Measures.{Measures}
 use Rattle.measures.specs.Measures.{measuresOf, readyOf}
 use Rattle.verify.specs.Calls.{measuresFor, measureCode, measureOf, verifyCode, verifyOf}

@@ -19,7 +19,7 @@ use Rattle.gate.specs.Gates.{lawful, gateOf}
 use Rattle.gate.proofs.Tables.{among-lawful, lawful-among}
 use Rattle.circuit.specs.declared.Weights.{Weights}
 use Rattle.circuit.specs.Measure.{weightFor, weightOf, cost, depth}
-use Rattle.circuit.specs.Run.{forwards}
+use Rattle.running.specs.Run.{forwards}
 use Rattle.circuit.proofs.Prefix.{depth-most}
 use Rattle.layouts.specs.Layouts.{Width, plain, layoutsFor}
 use Rattle.table.specs.Rows.{realizes}
@@ -30,9 +30,9 @@ use Rattle.record.proofs.Kept.{wires-within}
 use Rattle.measures.specs.declared.Measures.{Measures}
 use Rattle.measures.specs.Measures.{measuresOf}
 use Rattle.problem.specs.Demand.{Admitted, Solves, Winner}
-use Rattle.search.specs.Outcomes.{problemOver, problemOf, recordOf, Found, searchOf}
-use Rattle.search.proofs.Facts.{found-sound, found-is, none-is, answers}
-use Rattle.sensitivity.proofs.Jobs.{total-small}
+use Rattle.outcomes.specs.Outcomes.{problemOver, problemOf, recordOf, Found, searchOf}
+use Rattle.outcomes.proofs.Facts.{found-sound, found-is, none-is, answers}
+use Rattle.repriced.proofs.Jobs.{total-small}
 use Rattle.inverse.proofs.Tables.{realized-is}
 use Rattle.inverse.proofs.Jobs.{plain-only}
 use Rattle.windows.specs.declared.Prices.{Prices}

@@ -14,8 +14,8 @@ use Rattle.logic.proofs.Chain.{both-true}
 use Rattle.logic.proofs.Members.{member-at}
 use Rattle.gate.specs.Gates.{lawful}
 use Rattle.circuit.specs.declared.Weights.{Weights}
-use Rattle.circuit.specs.Run.{forwards}
-use Rattle.circuit.proofs.Reversal.{stays}
+use Rattle.running.specs.Run.{forwards}
+use Rattle.running.proofs.Reversal.{stays}
 use Rattle.reversal.proofs.Runs.{runs-back, lawful-reverse}
 use Rattle.layouts.specs.Layouts.{Width}
 use Rattle.table.specs.Rows.{careOf, valueOf, rowOk}

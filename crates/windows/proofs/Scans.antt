@@ -14,8 +14,8 @@ use Rattle.logic.specs.Answers.{refused, answered}
 use Rattle.layouts.specs.Layouts.{Width}
 use Rattle.fields.specs.Circuits.{gates, circuitBytes}
 use Rattle.measures.specs.declared.Measures.{Measures}
-use Rattle.search.specs.Outcomes.{recordOf, Found, searchOf}
-use Rattle.search.proofs.Facts.{found-sound, found-is}
+use Rattle.outcomes.specs.Outcomes.{recordOf, Found, searchOf}
+use Rattle.outcomes.proofs.Facts.{found-sound, found-is}
 use Rattle.windows.specs.declared.Prices.{Prices}
 use Rattle.windows.specs.Windows.{costAt, windowJob, cheaperThan, better, windowAt, replaced, rewritten}
 use Rattle.windows.specs.Inner.{spliced, Still}

@@ -13,8 +13,8 @@ use Rattle.logic.proofs.Chain.{both-parts, both-true}
 use Rattle.logic.proofs.Fold.{total-append, along-append}
 use Rattle.gate.specs.Gates.{lawful, step}
 use Rattle.circuit.specs.Measure.{weightOf}
-use Rattle.circuit.specs.Run.{forwards}
-use Rattle.circuit.proofs.Reversal.{stays}
+use Rattle.running.specs.Run.{forwards}
+use Rattle.running.proofs.Reversal.{stays}
 use Rattle.layouts.specs.Layouts.{Width}
 use Rattle.windows.specs.declared.Prices.{Prices}
 use Rattle.windows.specs.Windows.{weights, costAt, better, windowAt, replaced, rewritten}

@@ -9,9 +9,9 @@ use Rattle.logic.specs.Lists.{numbersFrom}
 use Rattle.logic.specs.Answers.{Answer, refused, answered}
 use Rattle.circuit.specs.declared.Weights.{Weights}
 use Rattle.circuit.specs.Measure.{weightOf, cost}
-use Rattle.circuit.specs.Run.{forwards}
+use Rattle.running.specs.Run.{forwards}
 use Rattle.fields.specs.Circuits.{gates}
-use Rattle.search.specs.Outcomes.{Found, searchOf}
+use Rattle.outcomes.specs.Outcomes.{Found, searchOf}
 use Rattle.windows.specs.declared.Prices.{Prices}
 
 -- "three prices", by kind; no gate here has three controls, so that the fourth is never asked for

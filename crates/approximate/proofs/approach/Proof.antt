@@ -14,7 +14,7 @@ use Rattle.choice.proofs.Held.{held-some, held-none}
 use Rattle.problem.specs.Problems.{firstGood}
 use Rattle.misses.specs.Misses.{closestChoice}
 use Rattle.misses.proofs.Fewest.{fewest-found, fewest-last}
-use Rattle.search.specs.Outcomes.{problemOf}
+use Rattle.outcomes.specs.Outcomes.{problemOf}
 use Rattle.approximate.proofs.Posed.{near, none-first}
 use Rattle.approximate.proofs.approach.Statement.{statement}
 use Rattle.approximate.proofs.approach.Tie as tie

@@ -7,7 +7,7 @@ use lib.Seq.{length-take-le}
 use Rattle.problem.specs.Problems.{firstGood}
 use Rattle.states.specs.declared.Task.{Task}
 use Rattle.nearing.specs.Loose.{loosened}
-use Rattle.search.specs.Outcomes.{problemOf}
+use Rattle.outcomes.specs.Outcomes.{problemOf}
 use Rattle.search.proofs.Posed.{Handed, in-range, limited, sliced, posed}
 use Rattle.approximate.proofs.Posed.{walked-first}
 use Rattle.approximate.proofs.at_most.Statement.{statement}

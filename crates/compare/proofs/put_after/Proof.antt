@@ -5,11 +5,11 @@ use native.Mathlib.Omega.{arith}
 use borrow.Author.Needs.{needs}
 use lib.ListN.{length, take}
 use lib.Seq.{length-take-le}
-use Rattle.search.specs.Outcomes.{searchOf}
-use Rattle.search.proofs.Told.{when-refused, when-found}
+use Rattle.outcomes.specs.Outcomes.{searchOf}
+use Rattle.outcomes.proofs.Told.{when-refused, when-found}
 use Rattle.report.proofs.Short.{refused-short}
 use Rattle.compare.specs.Inner.{afterOld}
-use Rattle.compare.proofs.Printed.{both-short}
+use Rattle.differences.proofs.Short.{both-short}
 use Rattle.compare.proofs.put_after.Statement.{statement}
 use Rattle.compare.proofs.put_after.Tie as tie
 

@@ -6,8 +6,8 @@ use borrow.Author.Needs.{needs}
 use lib.ListN.{length}
 use lib.Seq.{length-take-le}
 use Rattle.logic.specs.Answers.{Answer}
-use Rattle.search.specs.Outcomes.{Found, searchOf}
-use Rattle.search.proofs.Told.{when-refused, when-found}
+use Rattle.outcomes.specs.Outcomes.{Found, searchOf}
+use Rattle.outcomes.proofs.Told.{when-refused, when-found}
 use Rattle.report.proofs.Short.{refused-short}
 use Rattle.compare.specs.Inner.{bothText}
 use Rattle.compare.proofs.put_searched.Statement.{statement}

@@ -1,5 +1,6 @@
 -- The loop rises through the costs: nothing good costs less than the one at hand, by a search that failed.
-use mathlib.Core.Path.{_≡_, sym, subst}
+use mathlib.Core.Path.{_≡_, sym, _∙_, subst}
+use mathlib.Core.Bool.{true≢false}
 use Prim.Native.Nat.{_-_, _≤_, _<_}
 use native.Mathlib.Omega.{arith}
 use borrow.Author.Needs.{needs}
@@ -15,19 +16,19 @@ use Rattle.deepening.proofs.cheaper.Statement.{statement}
 use Rattle.deepening.proofs.cheaper.Tie as tie
 
 abbrev Inv-loop : tie.InvT-loop
-Inv-loop gates prices durations task least sums held bits reach c₀ c =
-    (c ≤ held .cost) × ((P : Problem) → Posed P task gates prices durations → Bounded P least → Limited P task → Shortest P (P .mostCost) (view held) (held .len) → Dearer P c)
+Inv-loop gates prices durations task least sums held from to bits reach c₀ c =
+    (c ≤ to) × ((P : Problem) → Posed P task gates prices durations → Bounded P least → Limited P task → Shortest P (P .mostCost) (view held) (held .len) → Dearer P from → Dearer P c)
 
 abbrev μ-loop : tie.MeasureT-loop
-μ-loop gates prices durations task least sums held bits reach c₀ c = held .cost - c
+μ-loop gates prices durations task least sums held from to bits reach c₀ c = to - c
 
 loop-holds : tie.Need-loop-holds Inv-loop μ-loop
-loop-holds c = (omega arith, λ P posed bounded limited first. record { cost-least = λ a m h. omega arith })
+loop-holds c = (c .before .before .before .before .before .pre .1 .1 .1 .1 .0, λ P posed bounded limited first dear. dear)
 
 at-cost-requires : tie.Need-at-cost-requires Inv-loop μ-loop
 unfolding limitedTo
 at-cost-requires c κs =
-    let s = c .before .before .before .before .before .before .before .before .before in
+    let s = c .before .before .before .before .before .before .before .before in
     let a = s .args in
     let f = s .pre .0 in
     let r = s .pre .1 .0 in
@@ -37,51 +38,59 @@ at-cost-requires c κs =
     )
 
 -- what the search at one cost comes to
-priced : (c : tie.After-at-cost Inv-loop μ-loop) (P : Problem) → let a = c .before .before .before .before .before .before .before .before .before .before .args in
+priced : (c : tie.After-at-cost Inv-loop μ-loop) (P : Problem) → let a = c .before .before .before .before .before .before .before .before .before .args in
     Posed P (a .task) (a .gates .now) (a .prices .now) (a .durations .now) → Bounded P (a .least) → Limited P (a .task) → Shortest P (P .mostCost) (view (a .held)) (a .held .len)
-    → Priced P (c .before .before .before .before .loop .c) (c .at-cost .result)
-priced c P posed bounded limited first =
-    let s = c .before .before .before .before .before .before .before .before .before .before in
+    → Dearer P (a .from) → Priced P (c .before .before .before .loop .c) (c .at-cost .result)
+priced c P posed bounded limited first dear =
+    let s = c .before .before .before .before .before .before .before .before .before in
     let a = s .args in
-    let q = c .before .before .before .before .loop in
+    let q = c .before .before .before .loop in
     let few = s .pre .1 .0 .1 in
-    let counted = counted-at P (a .task) _ _ _ posed (s .pre .0 .priced-all) (a .sums .now) (q .c) (omega (arith, limited .gates-most)) (rw (limited .gates-most) at (s .pre .1 .1 .0)) (q .inv .1 P posed bounded limited first) in
-    priced-below P (a .task) _ _ _ posed (a .least) bounded limited (a .held) (s .pre .1 .1 .1 .0) first (q .c) (c .before .before .if1 .taken) (a .sums .now) counted
+    let below = c .before .before .loop-test .taken in
+    let top = s .pre .1 .1 .1 .1 .1 in
+    let counted = counted-at P (a .task) _ _ _ posed (s .pre .0 .priced-all) (a .sums .now) (q .c) (omega (arith, limited .gates-most)) (rw (limited .gates-most) at (s .pre .1 .1 .0)) (q .inv .1 P posed bounded limited first dear) in
+    priced-below P (a .task) _ _ _ posed (a .least) bounded limited (a .held) (s .pre .1 .1 .1 .0) first (q .c) (omega arith) (a .sums .now) counted
     _ (c .before .limited-to .ensures) (c .at-cost .result) (c .at-cost .ensures .0 P)
 
 returns : tie.Need-returns Inv-loop μ-loop
 returns c =
-    let s = c .before .before .before .before .before .before .before .before .before .before .before in
+    let s = c .before .before .before .before .before .before .before .before .before .before in
     let a = s .args in
-    let q = c .before .before .before .before .before .loop in
-    let b = c .before .before .before .if1 .taken in
+    let q = c .before .before .before .before .loop in
+    let b = c .before .before .before .loop-test .taken in
+    let top = s .pre .1 .1 .1 .1 .1 in
     let r = c .before .at-cost in
-    let f = c .if2 .taken in (
-      (λ P posed bounded limited first.
+    let f = c .if1 .taken in (
+      (λ P posed bounded limited first dear.
           let most = found-cost P (P .mostCost) (a .held) (omega arith) (s .pre .1 .1 .1 .0) first in
-          let here = priced (c .before) P posed bounded limited first .first f in
-          final P (q .c) (r .result) (omega arith) f here (q .c) (q .inv .1 P posed bounded limited first) (found-cost P (q .c) (r .result) (omega arith) f here)),
+          let here = priced (c .before) P posed bounded limited first dear .first f in
+          record {
+            failed = λ e. absurd (true≢false (sym f ∙ e));
+            first = λ e. final P (q .c) (r .result) (omega arith) f here (q .c) (q .inv .1 P posed bounded limited first dear) (found-cost P (q .c) (r .result) (omega arith) f here);
+          }),
       r .ensures .1,
     )
 
 loop-again : tie.Need-loop-again Inv-loop μ-loop
 loop-again c =
-    let b = c .before .before .before .if1 .taken in
-    (omega arith, λ P posed bounded limited first. priced (c .before) P posed bounded limited first .failed (c .if2 .left))
+    let b = c .before .before .before .loop-test .taken in
+    (omega arith, λ P posed bounded limited first dear. priced (c .before) P posed bounded limited first dear .failed (c .if1 .left))
 
 returns-2 : tie.Need-returns-2 Inv-loop μ-loop
 returns-2 c =
-    let s = c .before .before .before .before .before .before .before .before in
     let q = c .before .before .loop in
-    let b = c .if1 .left in (
-      (λ P posed bounded limited first.
-          final P (P .mostCost) (s .args .held) (omega arith) (s .pre .1 .1 .1 .0) first (q .c) (q .inv .1 P posed bounded limited first) (omega arith)),
-      s .pre .1 .1 .1 .1,
+    let b = c .before .loop-test .left in
+    let e : q .c ≡ c .before .before .before .before .before .before .before .before .args .to = omega arith in (
+      (λ P posed bounded limited first dear. record {
+        failed = λ f. subst (Dearer P) e (q .inv .1 P posed bounded limited first dear);
+        first = λ f. absurd (true≢false (sym f ∙ c .nothing .ensures .1 .0));
+      }),
+      c .nothing .ensures .1 .1,
     )
 
 pub cheaper-spec : {M : Type 1} → statement M
 cheaper-spec =
     tie.close
-    (tie.spec Inv-loop μ-loop loop-holds (λ c. search needs) (λ c κs. search needs) at-cost-requires returns
-    (λ c. let b = c .before .before .before .if1 .taken in search needs) (λ c. let b = c .before .before .before .if1 .taken in omega arith) loop-again
-    returns-2)
+    (tie.spec Inv-loop μ-loop loop-holds (λ c κs. search needs) at-cost-requires returns
+    (λ c. let b = c .before .before .before .loop-test .taken in search needs) (λ c. let b = c .before .before .before .loop-test .taken in omega arith) loop-again
+    (λ c κs. search needs) returns-2)

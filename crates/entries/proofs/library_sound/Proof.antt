@@ -2,7 +2,7 @@ use mathlib.Core.Path.{_∙_}
 use native.Mathlib.Omega.{arith}
 use borrow.Author.Needs.{needs}
 use Rattle.fields.specs.Jobs.{longer}
-use Rattle.record.proofs.Kept.{two-or-three}
+use Rattle.fields.proofs.Widths.{two-or-three}
 use Rattle.entries.specs.Library.{entriesOf, entriesOk}
 use Rattle.entries.proofs.library_sound.Statement.{statement}
 use Rattle.entries.proofs.library_sound.Tie as tie

@@ -7,7 +7,7 @@ use borrow.Author.Needs.{needs}
 use lib.ListN.{length}
 use Rattle.cutting.specs.Records.{countOf, jobAt}
 use Rattle.pieces.specs.Text.{inFront}
-use Rattle.line.specs.Lines.{lineOf}
+use Rattle.lines.specs.Lines.{lineOf}
 use Rattle.report.proofs.Short.{refused-short}
 use Rattle.files.specs.Parts.{partAt}
 use Rattle.files.proofs.Parts.{count-whole, line-whole, line-short}

@@ -6,7 +6,7 @@ use native.Mathlib.Omega.{arith}
 use borrow.Author.Needs.{needs}
 use lib.ListN.{length}
 use Rattle.pieces.specs.Text.{inFront}
-use Rattle.line.specs.Lines.{lineOf}
+use Rattle.lines.specs.Lines.{lineOf}
 use Rattle.files.proofs.job_line.Statement.{statement}
 use Rattle.files.proofs.job_line.Tie as tie
 

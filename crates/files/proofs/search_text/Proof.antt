@@ -8,14 +8,14 @@ use lib.ListN.{length, take}
 use lib.Seq.{length-take-le}
 use Rattle.logic.specs.Answers.{Answer, refused, answered}
 use Rattle.measures.specs.declared.Measures.{Measures}
-use Rattle.search.specs.Outcomes.{Found}
-use Rattle.search.proofs.Told.{when-refused, when-found}
+use Rattle.outcomes.specs.Outcomes.{Found}
+use Rattle.outcomes.proofs.Told.{when-refused, when-found}
 use Rattle.pieces.specs.Text.{refusedLine, foundLine}
 use Rattle.pieces.proofs.Pieces.{found-short}
-use Rattle.line.specs.Lines.{lineFor}
+use Rattle.lines.specs.Lines.{lineFor}
 use Rattle.report.specs.Report.{refusedText}
 use Rattle.report.proofs.Short.{refused-short}
-use Rattle.verdicts.specs.Files.{given, finding, explained, searchText}
+use Rattle.rooms.specs.Files.{given, finding, explained, searchText}
 use Rattle.files.proofs.search_text.Statement.{statement}
 use Rattle.files.proofs.search_text.Tie as tie
 

@@ -4,9 +4,9 @@ use Prim.Native.Nat.{_/_, _≤_}
 use native.Mathlib.Omega.{arith}
 use borrow.Author.Needs.{needs}
 use lib.ListN.{length}
-use Rattle.library.specs.Calls.{setIn}
-use Rattle.library.proofs.Sound.{sound-library}
-use Rattle.library.proofs.Columns.{tabled, lawful-column}
+use Rattle.libraries.specs.Calls.{setIn}
+use Rattle.libraries.proofs.Sound.{sound-library}
+use Rattle.libraries.proofs.Columns.{tabled, lawful-column}
 use Rattle.library.proofs.first_good.Statement.{statement}
 use Rattle.library.proofs.first_good.Tie as tie
 

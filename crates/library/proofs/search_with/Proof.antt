@@ -5,10 +5,10 @@ use native.Mathlib.Omega.{arith}
 use borrow.Author.Needs.{needs}
 use lib.ListN.{length}
 use Rattle.logic.specs.Answers.{Answer}
-use Rattle.search.specs.Outcomes.{Found, searchOver, reported, written}
-use Rattle.search.proofs.Answer.{by-code, told-is}
-use Rattle.library.specs.Calls.{setIn, searchWithCode, searchWith}
-use Rattle.library.proofs.Sound.{Searchable, searchable}
+use Rattle.outcomes.specs.Outcomes.{Found, searchOver, reported, written}
+use Rattle.outcomes.proofs.Answer.{by-code, told-is}
+use Rattle.libraries.specs.Calls.{setIn, searchWithCode, searchWith}
+use Rattle.libraries.proofs.Sound.{Searchable, searchable}
 use Rattle.library.proofs.search_with.Statement.{statement}
 use Rattle.library.proofs.search_with.Tie as tie
 

@@ -6,9 +6,9 @@ use borrow.Author.Needs.{needs}
 use lib.ListN.{length, take}
 use lib.Seq.{length-take-le}
 use Rattle.pieces.proofs.Pieces.{refused-short, found-short}
-use Rattle.search.specs.Outcomes.{searchOf}
-use Rattle.search.proofs.Told.{when-refused, when-found}
-use Rattle.line.specs.Lines.{lineFor, lineOf}
+use Rattle.outcomes.specs.Outcomes.{searchOf}
+use Rattle.outcomes.proofs.Told.{when-refused, when-found}
+use Rattle.lines.specs.Lines.{lineFor, lineOf}
 use Rattle.line.proofs.line.Statement.{statement}
 use Rattle.line.proofs.line.Tie as tie
 

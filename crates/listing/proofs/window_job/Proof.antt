@@ -7,7 +7,7 @@ use native.Mathlib.Omega.{arith}
 use borrow.Author.Needs.{needs}
 use lib.ListN.{length, take, length-set}
 use Rattle.logic.specs.Lists.{numbersFrom}
-use Rattle.circuit.specs.Run.{forwards}
+use Rattle.running.specs.Run.{forwards}
 use Rattle.layouts.specs.Layouts.{Width}
 use Rattle.windows.specs.Windows.{windowJob}
 use Rattle.windows.proofs.Buffers.{row-more}

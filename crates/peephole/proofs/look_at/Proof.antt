@@ -9,8 +9,8 @@ use lib.Seq.{length-take-le}
 use Rattle.logic.specs.Answers.{refused, answered}
 use Rattle.circuit.specs.declared.Weights.{Weights}
 use Rattle.circuit.specs.Measure.{weightOf, cost}
-use Rattle.search.specs.Outcomes.{searchOf}
-use Rattle.search.proofs.Told.{when-refused, when-found}
+use Rattle.outcomes.specs.Outcomes.{searchOf}
+use Rattle.outcomes.proofs.Told.{when-refused, when-found}
 use Rattle.windows.specs.Windows.{windowJob, costAt}
 use Rattle.windows.proofs.Scans.{nothing-offered, offer-long, is-offered}
 use Rattle.peephole.specs.Inner.{offered}

@@ -4,7 +4,7 @@ use native.Mathlib.Omega.{arith}
 use borrow.Author.Needs.{needs}
 use lib.ListN.{length}
 use Rattle.logic.specs.Answers.{Answer, refused}
-use Rattle.search.specs.Outcomes.{Found, reported, written}
+use Rattle.outcomes.specs.Outcomes.{Found, reported, written}
 use Rattle.slot.specs.Slots.{Slot, isFinished, resultOf}
 use Rattle.scheduler.specs.States.{collectCode, withSlot}
 use Rattle.scheduler.specs.Calls.{viewState}

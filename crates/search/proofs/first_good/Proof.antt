@@ -1,6 +1,6 @@
 use mathlib.Core.Path.{_≡_}
 use borrow.Author.Needs.{needs}
-use Rattle.search.specs.Outcomes.{ownSet}
+use Rattle.outcomes.specs.Outcomes.{ownSet}
 use Rattle.search.proofs.first_good.Statement.{statement}
 use Rattle.search.proofs.first_good.Tie as tie
 

@@ -6,9 +6,9 @@ use borrow.Author.Needs.{needs}
 use lib.ListN.{length}
 use Rattle.record.specs.JobRules.{jobCode}
 use Rattle.logic.specs.Answers.{Answer}
-use Rattle.search.specs.Outcomes.{Found, ownSet, searchCode, searchOf, searchOver, reported, written}
-use Rattle.search.proofs.Facts.{code-parts}
-use Rattle.search.proofs.Answer.{by-code, told-is}
+use Rattle.outcomes.specs.Outcomes.{Found, ownSet, searchCode, searchOf, searchOver, reported, written}
+use Rattle.outcomes.proofs.Facts.{code-parts}
+use Rattle.outcomes.proofs.Answer.{by-code, told-is}
 use Rattle.search.proofs.search.Statement.{statement}
 use Rattle.search.proofs.search.Tie as tie
 

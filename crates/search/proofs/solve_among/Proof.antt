@@ -5,9 +5,9 @@ use native.Mathlib.Omega.{arith}
 use borrow.Author.Needs.{needs}
 use lib.ListN.{length, take}
 use lib.Seq.{length-take-le}
-use Rattle.search.specs.Outcomes.{problemOver}
-use Rattle.search.specs.Inner.{Lawfuls}
-use Rattle.search.proofs.Answer.{odd-nothing}
+use Rattle.outcomes.specs.Outcomes.{problemOver}
+use Rattle.outcomes.specs.Inner.{Lawfuls}
+use Rattle.outcomes.proofs.Answer.{odd-nothing}
 use Rattle.search.proofs.Posed.{Handed, in-range, limited, sliced, posed}
 use Rattle.search.proofs.solve_among.Statement.{statement}
 use Rattle.search.proofs.solve_among.Tie as tie

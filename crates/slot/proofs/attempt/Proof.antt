@@ -3,7 +3,7 @@ use borrow.Author.Needs.{needs}
 use Rattle.choice.specs.Choices as choices
 use Rattle.choice.specs.Inner.{view}
 use Rattle.problem.specs.Problems.{choiceOf, good}
-use Rattle.search.specs.Outcomes.{problemOver, problemOf}
+use Rattle.outcomes.specs.Outcomes.{problemOver, problemOf}
 use Rattle.candidates.specs.Inner.{current}
 use Rattle.slot.proofs.attempt.Statement.{statement}
 use Rattle.slot.proofs.attempt.Tie as tie

@@ -8,7 +8,7 @@ use Rattle.gate.specs.Gates.{gatesFor}
 use Rattle.layouts.specs.Layouts.{Width, layoutsFor}
 use Rattle.fields.specs.Jobs.{mostControls, dataWires, wires, freeLayout}
 use Rattle.record.proofs.Kept.{sound-job}
-use Rattle.search.specs.Outcomes.{problemOver, problemOf}
+use Rattle.outcomes.specs.Outcomes.{problemOver, problemOf}
 use Rattle.slot.proofs.Counts.{shape, gates-few, layouts-few}
 use Rattle.slot.proofs.place_after.Statement.{statement}
 use Rattle.slot.proofs.place_after.Tie as tie

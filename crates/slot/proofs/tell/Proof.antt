@@ -4,7 +4,7 @@ use borrow.Author.Needs.{needs}
 use lib.ListN.{length}
 use lib.Seq.{length-take-le}
 use Rattle.logic.specs.Answers.{Answer}
-use Rattle.search.specs.Outcomes.{Found, reported, written}
+use Rattle.outcomes.specs.Outcomes.{Found, reported, written}
 use Rattle.slot.specs.Slots.{resultOf}
 use Rattle.slot.specs.View.{jobIn, stageOf}
 use Rattle.slot.proofs.Entries.{Sound, stage-sound, seen, finished-stage}

@@ -1,6 +1,7 @@
-use mathlib.Core.Path.{_≡_}
+use mathlib.Core.Path.{_≡_, refl}
 use borrow.Author.Needs.{needs}
-use Rattle.solver.proofs.Handover.{supplied}
+use borrow.Author.Tests.{not-true, not-false}
+use Rattle.solver.proofs.Handover.{supplied, settled-first, settled-none}
 use Rattle.solver.proofs.stage.Statement.{statement}
 use Rattle.solver.proofs.stage.Tie as tie
 
@@ -13,27 +14,29 @@ go-on-requires c κs =
       ((s .pre .1 .0 .0, s .pre .1 .1 .0 .1), (s .pre .1 .1 .0 .0, s .pre .1 .1 .1)),
     )
 
-widened-requires : tie.Need-widened-requires
-widened-requires c κs =
-    let s = c .before .before .before .before .before .before .before .before .before .before .before .before .before .before in
-    (s .pre .1 .0 .0, c .before .before .before .before .before .filter-for .ensures (s .args .task .controls))
-
-settle-requires : tie.Need-settle-requires
-settle-requires c κs =
-    let s = c .before .before .before .before .before .before .before .before .before .before .before .before .before .before .before .before .before .before in
-    let a = s .args in
-    let w = c .before .before .before .widened in (
-      supplied (a .gates .now) (a .prices .now) (a .durations .now) (a .task) (w .last .1 .1 .1 .1 .1 .0) (w .result) (s .pre .0) (w .ensures),
-      (s .pre .1 .0, c .before .before .before .before .before .go-on .ensures .1),
-    )
-
 returns : tie.Need-returns
 returns c =
+    let g = c .before .before .go-on in
+    let a = c .before .before .before .before .before .before .before .before .before .before .before .before .before .before .before .args in (
+      (λ P posed bounded limited hg d. settled-none P (a .most) _ refl (g .ensures .0 P posed bounded limited hg d .failed (not-true _ (c .if1 .taken)))),
+      g .ensures .1,
+    )
+
+outbid-requires : tie.Need-outbid-requires
+outbid-requires c κs =
+    let s = c .before .before .before .before .before .before .before .before .before .before .before .before .before .before .before .before in
+    let g = c .before .before .before in
+    (s .pre .0, (s .pre .1 .0, ((not-false _ (c .before .if1 .left), g .go-on .ensures .1), g .before .before .before .before .filter-for .ensures (s .args .task .controls))))
+
+returns-2 : tie.Need-returns-2
+returns-2 c =
+    let e = c .before .before .before .before in
+    let g = e .before .before .go-on in
+    let found = not-false _ (e .if1 .left) in
     let a = c .before .before .before .before .before .before .before .before .before .before .before .before .before .before .before .before .before .before .before .args in (
-      (λ P posed bounded limited hg d.
-          c .settle .ensures .0 P (a .most) posed bounded limited (c .before .before .before .before .before .before .go-on .ensures .0 P posed bounded limited hg d)),
-      c .settle .ensures .1,
+      (λ P posed bounded limited hg d. settled-first P (a .most) _ refl (c .before .before .outbid .ensures .0 P posed bounded limited (g .ensures .0 P posed bounded limited hg d .first found))),
+      c .before .before .outbid .ensures .1,
     )
 
 pub stage-spec : {M : Type 1} → statement M
-stage-spec = tie.close (tie.spec (λ c κs. search needs) (λ c κs. search needs) (λ c κs. search needs) go-on-requires widened-requires settle-requires (λ c. search needs) returns)
+stage-spec = tie.close (tie.spec (λ c κs. search needs) (λ c κs. search needs) (λ c κs. search needs) go-on-requires (λ c. search needs) returns outbid-requires (λ c. search needs) returns-2)

@@ -6,7 +6,7 @@ use native.Mathlib.Omega.{arith}
 use borrow.Author.Tests.{not-true, not-false}
 use borrow.Author.Needs.{needs}
 use lib.ListN.{getD, length, drop}
-use Rattle.circuit.specs.Run.{forwards}
+use Rattle.running.specs.Run.{forwards}
 use Rattle.table.specs.Rows.{rowAgrees, agreesFrom, agrees}
 use Rattle.table.proofs.Rows.{rows-turn, rows-done}
 use Rattle.table.proofs.agrees.Statement.{statement}

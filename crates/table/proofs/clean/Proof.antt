@@ -7,7 +7,7 @@ use borrow.Author.Needs.{needs}
 use Rattle.logic.specs.Rules.{allBelow}
 use Rattle.logic.specs.Bit.{bitOf}
 use Rattle.logic.proofs.Bits.{shifted-one}
-use Rattle.circuit.specs.Run.{forwards}
+use Rattle.running.specs.Run.{forwards}
 use Rattle.table.specs.Rows.{atZero}
 use Rattle.table.proofs.Rows.{clean-turn, clean-stop, clean-done}
 use Rattle.table.proofs.clean.Statement.{statement}

@@ -1,5 +1,5 @@
 use borrow.Author.Needs.{needs}
-use Rattle.verdicts.specs.Files.{isText}
+use Rattle.rooms.specs.Files.{isText}
 use Rattle.verdicts.proofs.is_text.Statement.{statement}
 use Rattle.verdicts.proofs.is_text.Tie as tie
 

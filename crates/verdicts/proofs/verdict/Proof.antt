@@ -1,5 +1,5 @@
 use borrow.Author.Needs.{needs}
-use Rattle.verdicts.specs.Files.{verdict}
+use Rattle.rooms.specs.Files.{verdict}
 use Rattle.verdicts.proofs.verdict.Statement.{statement}
 use Rattle.verdicts.proofs.verdict.Tie as tie
 

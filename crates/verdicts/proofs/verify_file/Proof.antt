@@ -1,6 +1,6 @@
 use mathlib.Core.Path.{sym, _∙_}
 use borrow.Author.Needs.{needs}
-use Rattle.verdicts.specs.Files.{circuitIn, verifyFile}
+use Rattle.rooms.specs.Files.{circuitIn, verifyFile}
 use Rattle.verdicts.proofs.verify_file.Statement.{statement}
 use Rattle.verdicts.proofs.verify_file.Tie as tie
 

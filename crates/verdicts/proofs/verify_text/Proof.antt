@@ -1,5 +1,5 @@
 use borrow.Author.Needs.{needs}
-use Rattle.verdicts.specs.Files.{verifyText}
+use Rattle.rooms.specs.Files.{verifyText}
 use Rattle.verdicts.proofs.verify_text.Statement.{statement}
 use Rattle.verdicts.proofs.verify_text.Tie as tie
 

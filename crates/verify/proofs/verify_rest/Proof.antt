@@ -2,7 +2,7 @@
 use mathlib.Core.Path.{_∙_}
 use borrow.Author.Needs.{needs}
 use Rattle.logic.specs.Rules.{rule}
-use Rattle.circuit.specs.Run.{forwards}
+use Rattle.running.specs.Run.{forwards}
 use Rattle.layouts.specs.Layouts.{allowed}
 use Rattle.table.specs.Rows.{agrees, clean}
 use Rattle.record.proofs.Kept.{sound-job}

@@ -1,0 +1,3 @@
+pub mod Eleven
+pub mod Written
+pub mod Sound

@@ -1,0 +1,2 @@
+pub mod CircuitRules
+pub mod Inner

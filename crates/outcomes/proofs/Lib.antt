@@ -1,0 +1,4 @@
+pub mod Facts
+pub mod Verified
+pub mod Answer
+pub mod Told

@@ -1,0 +1,148 @@
+// What is known before a walk: what every list has and costs at least, and which filter pays for its time.
+use choice::Best;
+use hashes::Reach;
+use states::Least;
+use states::Task;
+ghost use mathlib.Core.Path.{_≡_};
+ghost use mathlib.Core.List.{List};
+ghost use Prim.Native.Nat.{ℕ, _-_, _≤_, _<_};
+ghost use lib.ListN.{length};
+ghost use Rattle.problem.specs.Problems.{Problem};
+ghost use Rattle.filters.specs.Sieve.{Sieve};
+ghost use Rattle.states.specs.declared.Task.{Task};
+ghost use Rattle.states.specs.States.{Fair, Ready, Posed, Bounded};
+
+// What every list of these gates has and costs at least.
+pub fn least_of(gates: &[u8], prices: &[u8], task: Task) -> Least
+    requires { ⌜ Fair task ⌝ }
+    ensures { λ r. ⌜ Ready task r ⌝ }
+    ensures { λ r. ⌜ ((P : Problem) (durations : List ℕ) → length (now (prices .entry)) ≡ length (now (gates .entry)) → Posed P task (now (gates .entry)) (now (prices .entry)) durations → Bounded P r) ⌝ }
+{
+    let low = budget::low(prices);
+    let wanted = task.wanted;
+    Least {
+        low,
+        extra: budget::extra(gates, prices, low),
+        needs: span::needed(wanted, columns::start_columns(), task.outputs),
+    }
+}
+
+// How many gates a list may have that costs less than what is held.
+fn most_cheaper(task: Task, least: Least, held: Best) -> usize
+    requires { ⌜ (least .needs ≤ 12) × (least .extra ≤ 255) ⌝ }
+{
+    budget::reach(
+        least.low,
+        least.extra,
+        least.needs,
+        held.cost as usize,
+        task.gate_limit,
+    )
+}
+
+// From which cost on a filter wider than one of this radius pays; the cost of what is held, where none does. With many gates to choose from
+// filling it takes longer than it saves.
+pub fn wider_from(count: usize, task: Task, least: Least, held: Best, radius: usize) -> usize
+    requires { ⌜ (least .needs ≤ 12) × (least .extra ≤ 255) ⌝ }
+    ensures { λ r. ⌜ r ≤ held .cost ⌝ }
+{
+    let top = held.cost as usize;
+    if 32 < count {
+        return top;
+    }
+    let mut c = 0;
+    while c < top {
+        let most = budget::reach(least.low, least.extra, least.needs, c, task.gate_limit);
+        if radius < radius_for(count, most) {
+            return c;
+        }
+        c += 1;
+    }
+    c
+}
+
+// The filter for the costs from `from` on: the one at hand, or, where costs are left, a wider one.
+pub fn widened(
+    gates: &[u8],
+    task: Task,
+    least: Least,
+    held: Best,
+    from: usize,
+    reach: Reach,
+    bits: &mut [u64],
+) -> Reach
+    requires { ⌜ Ready task least ⌝ }
+    requires { ⌜ Sieve (now bits) reach (now gates) (task .controls) (task .wanted) (task .outputs) (task .free) ⌝ }
+    ensures { λ r. ⌜ Sieve (now (bits .exit)) r (now (gates .entry)) (task .controls) (task .wanted) (task .outputs) (task .free) ⌝ }
+{
+    if held.cost as usize <= from {
+        return reach;
+    }
+    let radius = radius_for(gates.len(), most_cheaper(task, least, held));
+    let wanted = task.wanted;
+    filters::filter_for(
+        gates,
+        wanted,
+        task.outputs,
+        task.free,
+        radius,
+        size_for(gates.len(), radius),
+        bits,
+    )
+}
+
+// The radius of a filter: what a search of so many gates gains by. It grows with the gates to come, and falls where there are more to choose
+// from, since the time to fill it is a power of their number.
+pub fn radius_for(count: usize, most: usize) -> usize {
+    if count <= 32 {
+        if most <= 10 { 4 } else { 5 }
+    } else {
+        if most <= 8 { 3 } else { 4 }
+    }
+}
+
+// How many bits a filter has: fewer where it holds few states, since a small set stays near the processor; with too few, most are set.
+pub fn size_for(count: usize, radius: usize) -> u32 {
+    if radius <= 3 {
+        return 16777216;
+    }
+    if logic::both(count <= 32, radius == 4) {
+        return 16777216;
+    }
+    50331648
+}
+
+// After how many gates, at least `from`, the wider filter takes the place of the first.
+pub fn turn_for(count: usize, from: usize) -> usize
+    requires { ⌜ from ≤ 10 ⌝ }
+    ensures { λ r. ⌜ (from ≤ r) × (r ≤ 10) ⌝ }
+{
+    if count <= 32 {
+        return 10;
+    }
+    if from <= 8 { 8 } else { from }
+}
+
+// A filter that no bits belong to.
+pub fn no_filter() -> Reach {
+    Reach {
+        radius: 0,
+        size: 0,
+        rows: 0,
+        factors: [0u32; 5],
+    }
+}
+
+// How many gates are looked at with no filter: up to there it costs more time than it saves.
+pub fn early(limit: usize) -> usize
+    ensures { λ r. ⌜ (r ≤ limit) × (r < 10) ⌝ }
+{
+    if limit < 6 { limit } else { 6 }
+}
+
+// Whether no list that could cost less than what is held has more than `most` gates: then no filter is worth its time.
+pub fn near(task: Task, least: Least, held: Best, most: usize) -> bool
+    requires { ⌜ (least .needs ≤ 12) × (least .extra ≤ 255) ⌝ }
+{
+    most_cheaper(task, least, held) <= most
+}

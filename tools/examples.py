@@ -236,8 +236,10 @@ def main():
                 put(os.path.join("crates", "gazbolk", "data"), name, files[name])
         absent = "unreadable %s\n" % ABSENT if ABSENT in names else ""
         printed += absent or says[command](*[records.get(name, files[name]) for name in names])
-    put(os.path.join("crates", "gazbolk"), "args", "\nthen\n".join("\n".join(words) for words in commands) + "\n")
-    put(os.path.join("crates", "gazbolk"), "stdout", printed)
+    # after the last `then` no command is named, as where there are no words at all: the program says what it can do
+    put(os.path.join("crates", "gazbolk"), "args", "\nthen\n".join("\n".join(words) for words in commands) + "\nthen\n")
+    with open(os.path.join("tools", "usage.txt")) as file:
+        put(os.path.join("crates", "gazbolk"), "stdout", printed + file.read())
     for asked in ("gift.job", "example4.job"):
         for given in records:
             print(asked, given, verdict(files[asked], records[given]).replace("\n", " "))

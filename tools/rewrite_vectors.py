@@ -15,6 +15,20 @@ import argparse
 import random
 
 FIRST = "# rewriting: no gate, fewer than the window, one window"
+# what the program prints after its calls: the lines of `main` and of `gazbolk search` for the files empty, four and long, as document 01 has
+# them, and the sentence of refusal 1
+LENGTH = "the job is not 20, 22, 28 or 30 bytes long"
+LAST = [
+    "# main, gazbolk search: no input at all; four data wires and an ancilla; a sound job with one byte more",
+    "refused 1",
+    "refused 1",
+    LENGTH,
+    "found 3 15 21 881B03837483",
+    "found 3 15 21 881B03837483",
+    "refused 1",
+    "refused 1",
+    LENGTH,
+]
 EXAMPLES = {3: [0x00, 0x02, 0x04, 0x06, 0x20, 0x21, 0x24, 0x25, 0x40, 0x41, 0x42, 0x43]}
 
 
@@ -224,7 +238,7 @@ def main():
     with open(given.data, "w") as file:
         file.write("\n".join(v.calls) + "\n")
     with open(given.stdout, "w") as file:
-        file.write("\n".join(kept + v.lines) + "\n")
+        file.write("\n".join(kept + v.lines + LAST) + "\n")
 
 
 if __name__ == "__main__":

@@ -29,7 +29,7 @@ fn still_needed(task: Task, least: Least, columns: [u16; 5], g: u8, needs: usize
         return needs;
     }
     let wanted = task.wanted;
-    span::needed(wanted, columns, task.outputs)
+    elimination::needed(wanted, columns, task.outputs)
 }
 
 // The node one gate further.
@@ -41,7 +41,7 @@ pub fn advance(table: &[u16], task: Task, least: Least, s: Node, entry: Entry) -
     ensures { λ r. ⌜ ((P : Problem) → Asks P task → At P s → Lists P entry → now (table .entry) ≡ tableOf (task .controls) (task .wanted) (s .columns) → Follows P s (entry .gate) r) ⌝ }
 {
     let before = s.columns;
-    let columns = products::step(table, before, entry.gate);
+    let columns = product_steps::step(table, before, entry.gate);
     let times = s.times;
     let marks = s.marks;
     let len = s.len;
@@ -49,7 +49,7 @@ pub fn advance(table: &[u16], task: Task, least: Least, s: Node, entry: Entry) -
     path[len] = entry.gate;
     Node {
         columns,
-        times: circuit::hold(gate::decode(entry.gate), entry.duration, times),
+        times: timing::hold(gate::decode(entry.gate), entry.duration, times),
         cost: s.cost + entry.price as u16,
         path,
         len: len + 1,

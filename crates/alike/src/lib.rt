@@ -1,8 +1,6 @@
-// Which two jobs are alike but for one price, and the difference of two costs.
+// Which two jobs are alike but for one price.
 ghost use mathlib.Core.Path.{_≡_};
-ghost use lib.IntN.{pos, natAbs};
-ghost use lib.Signed.{ltZ};
-ghost use Rattle.alike.specs.Alike.{sameBut, alikeBut, onePrice, comparable, compareCode, costDifference};
+ghost use Rattle.alike.specs.Alike.{sameBut, alikeBut, onePrice, comparable, compareCode};
 
 // Whether the byte at `i` is the same in both, or `i` is the place that is left out.
 fn same_but(old: &[u8], new: &[u8], place: usize, i: usize) -> bool
@@ -58,28 +56,4 @@ pub fn compare_code(old: &[u8], new: &[u8]) -> u8
         record::job_code(old),
         logic::and_then(record::job_code(new), alike),
     )
-}
-
-// The new cost less the old, for any two costs.
-pub fn cost_difference(old: u16, new: u16) -> i32
-    ensures { λ r. ⌜ r ≡ costDifference old new ⌝ }
-{
-    new as i32 - old as i32
-}
-
-// Whether a difference is below 0.
-pub fn is_negative(difference: i32) -> bool
-    ensures { λ r. ⌜ r ≡ ltZ difference (pos 0) ⌝ }
-{
-    difference < 0
-}
-
-// How far a difference is from 0.
-pub fn distance(difference: i32) -> u32
-    ensures { λ r. ⌜ r ≡ natAbs difference ⌝ }
-{
-    if difference < 0 {
-        return (-1 - difference) as u32 + 1;
-    }
-    difference as u32
 }

@@ -20,7 +20,7 @@ use Rattle.misses.specs.Columns.{nearly}
 use Rattle.misses.proofs.Rows.{none-realizes}
 use Rattle.misses.proofs.Counted.{columned}
 use Rattle.misses.proofs.Fewest.{same-first}
-use Rattle.nearing.specs.Loose.{loosened}
+use Rattle.loosening.specs.Loose.{loosened}
 use Rattle.outcomes.specs.Outcomes.{ownSet, problemOver, problemOf}
 use Rattle.search.specs.Inner.{taskOf}
 use Rattle.outcomes.proofs.Facts.{own-kept}

@@ -84,7 +84,7 @@ pub fn closest(job: &[u8], answer: &mut [u8]) -> Nearest
     ensures { λ r. ⌜ sizeIn r ≤ 15 ⌝ }
     ensures { λ _. ⌜ now (answer .exit) ≡ written (circuitIn (closestOf (now (job .entry)) (length (now (answer .entry))))) (now (answer .entry)) ⌝ }
 {
-    let code = codes::search_code(job, answer.len());
+    let code = single_codes::search_code(job, answer.len());
     if code != 0 {
         return Nearest::Refused(code);
     }

@@ -1,4 +1,5 @@
 // A batch of jobs in one call: each is searched for as if it came alone, into a cell and a status byte of its own.
+pub use batches::Batched;
 use outcomes::Searched;
 ghost use mathlib.Core.Path.{_≡_};
 ghost use Prim.Native.Nat.{_*_, _≤_};
@@ -6,22 +7,7 @@ ghost use mathlib.Core.List.{_++_};
 ghost use lib.ListN.{length, take, drop, set};
 ghost use Rattle.outcomes.specs.Outcomes.{written};
 ghost use Rattle.cutting.specs.Records.{records};
-ghost use Rattle.batch.specs.Batches.{batchCode, batchOf, aloneOf, statusOf, cellsAfter, statusesAfter, answersLeft, statusesLeft, batchedAnswer};
-
-// What a batch answers: a refusal's number, or the number of jobs.
-pub enum Batched {
-    Refused(u8),
-    Jobs(usize),
-}
-
-// The code of the first rule that a batch breaks, or 0.
-fn batch_code(jobs: &[u8], answers: usize, statuses: usize) -> u8
-    ensures { λ r. ⌜ r ≡ batchCode (now (jobs .entry)) answers statuses ⌝ }
-{
-    let cut = cutting::cut_off(jobs);
-    let roomy = logic::both(15 * cut.count <= answers, cut.count <= statuses);
-    logic::rule(cut.end == jobs.len(), 26, logic::rule(roomy, 27, 0))
-}
+ghost use Rattle.batches.specs.Batches.{batchOf, aloneOf, statusOf, cellsAfter, statusesAfter, answersLeft, statusesLeft, batchedAnswer};
 
 // Searches for one job's circuit in its own cell, and gives its status.
 fn search_cell(job: &[u8], cell: &mut [u8]) -> u8
@@ -75,7 +61,7 @@ pub fn search_all(jobs: &[u8], answers: &mut [u8], statuses: &mut [u8]) -> Batch
     ensures { λ _. ⌜ now (answers .exit) ≡ answersLeft (now (jobs .entry)) (now (answers .entry)) (now (statuses .entry)) ⌝ }
     ensures { λ _. ⌜ now (statuses .exit) ≡ statusesLeft (now (jobs .entry)) (now (answers .entry)) (now (statuses .entry)) ⌝ }
 {
-    let code = batch_code(jobs, answers.len(), statuses.len());
+    let code = batches::batch_code(jobs, answers.len(), statuses.len());
     if code != 0 {
         return Batched::Refused(code);
     }

@@ -1,2 +1,1 @@
 pub mod Afford
-pub mod Sums

@@ -1,13 +1,11 @@
-// What gates still to come cost at least, and which costs a gate list can have with how many gates.
+// What gates still to come cost at least.
 ghost use mathlib.Core.Path.{_≡_};
-ghost use mathlib.Core.Bool.{true, false};
 ghost use Prim.Native.Nat.{ℕ, _+_, _-_, _*_, _/_, _≤_, _<_, min};
 ghost use lib.Dec.{ltb};
 ghost use lib.ListN.{length, getD};
 ghost use Rattle.logic.specs.Rules.{pick};
 ghost use Rattle.budget.specs.Heavy.{heavy};
 ghost use Rattle.budget.specs.Afford.{reach};
-ghost use Rattle.budget.specs.Sums.{put, putFrom, Extends, Marked};
 
 fn lesser(a: usize, b: usize) -> usize
     ensures { λ r. ⌜ r ≡ min a b ⌝ }
@@ -92,60 +90,4 @@ pub fn reach(low: usize, extra: usize, needed: usize, spare: usize, remaining: u
         return remaining;
     }
     lesser(remaining, quotient(above(spare, needed * extra), low))
-}
-
-// Marks the place `step` places further, where it is within the slice.
-fn put(i: usize, step: usize, sums: &mut [u8])
-    requires { ⌜ i ≤ length (now sums) ⌝ }
-    ensures { λ _. ⌜ now (sums .exit) ≡ put (i + step) (now (sums .entry)) ⌝ }
-{
-    if step < sums.len() - i {
-        sums[i + step] = 1;
-    }
-}
-
-// How many places further one gate more of this price leads.
-fn stride(price: u8) -> usize
-    ensures { λ r. ⌜ r ≡ 13 * price + 1 ⌝ }
-{
-    13 * logic::wide(price) + 1
-}
-
-// Marks the places that one gate more makes of place `i`.
-fn put_from(prices: &[u8], i: usize, sums: &mut [u8])
-    requires { ⌜ i ≤ length (now sums) ⌝ }
-    ensures { λ _. ⌜ now (sums .exit) ≡ putFrom i (now (prices .entry)) (now (sums .entry)) ⌝ }
-{
-    let mut k = 0;
-    while k < prices.len() {
-        put(i, stride(prices[k]), sums);
-        k += 1;
-    }
-}
-
-// Whether a place is marked and its count leaves a gate of the limit.
-fn extends(mark: u8, i: usize, limit: usize) -> bool
-    ensures { λ r. ⌜ (r ≡ true → Extends limit i mark) ⌝ }
-    ensures { λ r. ⌜ (r ≡ false → Extends limit i mark → ⊥) ⌝ }
-{
-    if mark == 0 {
-        return false;
-    }
-    i % 13 < limit
-}
-
-// Marks the costs and counts of all lists of at most `limit` gates at these prices, as far as the slice goes.
-pub fn mark(prices: &[u8], limit: usize, sums: &mut [u8])
-    requires { ⌜ limit ≤ 12 ⌝ }
-    ensures { λ _. ⌜ length (now (sums .exit)) ≡ length (now (sums .entry)) ⌝ }
-    ensures { λ _. ⌜ Marked (now (prices .entry)) limit (now (sums .exit)) ⌝ }
-{
-    put(0, 0, sums);
-    let mut place = 0;
-    while place < sums.len() {
-        if extends(sums[place], place, limit) {
-            put_from(prices, place, sums);
-        }
-        place += 1;
-    }
 }

@@ -30,6 +30,12 @@ fn is_name(letter: u8, name: &[u8]) -> bool {
         b'm' => data_lines::same(name, b"measure"),
         b'v' => data_lines::same(name, b"verify"),
         b'p' => data_lines::same(name, b"parity"),
+        _ => is_later_name(letter, name),
+    }
+}
+
+fn is_later_name(letter: u8, name: &[u8]) -> bool {
+    match letter {
         b's' => data_lines::same(name, b"search"),
         b'l' => data_lines::same(name, b"line"),
         b'a' => data_lines::same(name, b"among"),
@@ -175,10 +181,10 @@ fn say_time(time: u16) {
 
 pub fn say_difference(difference: i32) {
     data_lines::say(b"by ");
-    if alike::is_negative(difference) {
+    if signed_costs::is_negative(difference) {
         data_lines::say(b"-");
     }
-    io::print_decimal(STDOUT_FILENO, alike::distance(difference) as u64);
+    io::print_decimal(STDOUT_FILENO, signed_costs::distance(difference) as u64);
 }
 
 // The cost in the first two bytes, high byte first.

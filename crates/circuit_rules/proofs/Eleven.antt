@@ -11,7 +11,7 @@ use lib.ListN.{length}
 use Rattle.logic.specs.Rules.{rule}
 use Rattle.logic.proofs.Chain.{rule-never}
 use Rattle.circuit_rules.specs.CircuitRules.{circuitLengthOk, shapeOk, layoutInOrder, countOk, gatesOk, circuitCode}
-use Rattle.fields.specs.Circuits.{countOf}
+use Rattle.circuit_fields.specs.Circuits.{countOf}
 use Rattle.circuit_rules.proofs.Sound.{short-enough}
 
 -- "Is the count at most 12? If not, 11.": the rule that went

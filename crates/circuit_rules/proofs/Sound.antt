@@ -16,7 +16,7 @@ use Rattle.gate.proofs.Tables.{all-widen}
 use Rattle.layouts.specs.Layouts.{Width, layoutOk}
 use Rattle.fields.specs.Jobs.{longer, dataWires, ancillas, wires}
 use Rattle.circuit_rules.specs.CircuitRules.{circuitLengthOk, shapeOk, layoutInOrder, countOk, gatesOk, circuitCode}
-use Rattle.fields.specs.Circuits.{marked, controlsOf, layoutOf, gates}
+use Rattle.circuit_fields.specs.Circuits.{marked, controlsOf, layoutOf, gates}
 use Rattle.circuit_rules.specs.Inner.{circuitRest}
 use Rattle.fields.proofs.Widths.{two-or-three, three-to-five}
 

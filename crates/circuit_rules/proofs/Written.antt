@@ -15,7 +15,7 @@ use Rattle.logic.proofs.Chain.{both-right, both-true, either-first, either-seco
 use Rattle.gate.specs.Gates.{lawful}
 use Rattle.layouts.specs.Layouts.{Width, layoutOk}
 use Rattle.fields.specs.Jobs.{dataWires, ancillas, wires}
-use Rattle.fields.specs.Circuits.{marked, controlsOf, layoutOf, countOf, gates, headByte, circuitBytes}
+use Rattle.circuit_fields.specs.Circuits.{marked, controlsOf, layoutOf, countOf, gates, headByte, circuitBytes}
 use Rattle.circuit_rules.specs.CircuitRules.{circuitLengthOk, shapeOk, layoutInOrder, countOk, circuitCode}
 use Rattle.circuit_rules.proofs.Sound.{long-enough}
 

@@ -9,7 +9,7 @@ use Rattle.logic.specs.Lists.{allOf}
 use Rattle.gate.specs.Gates.{lawful}
 use Rattle.layouts.specs.Layouts.{layoutOk}
 use Rattle.fields.specs.Jobs.{dataWires, ancillas, wires}
-use Rattle.fields.specs.Circuits.{layoutOf, countOf, gates, controlsOf}
+use Rattle.circuit_fields.specs.Circuits.{layoutOf, countOf, gates, controlsOf}
 
 -- "Is it 3 to 15 bytes long? If not, 7."
 unfoldable pub circuitLengthOk : List ℕ → Bool

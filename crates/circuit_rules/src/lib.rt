@@ -25,9 +25,9 @@ fn gates_ok(c: &[u8]) -> bool
     ensures { λ r. ⌜ r ≡ gatesOk (now (c .entry)) ⌝ }
 {
     gate::all_lawful(
-        fields::controls_of(c),
+        circuit_fields::controls_of(c),
         fields::wires(c),
-        fields::gate_list(c),
+        circuit_fields::gate_list(c),
     )
 }
 
@@ -36,7 +36,7 @@ fn count_ok(c: &[u8]) -> bool
     requires { ⌜ 3 ≤ length (now c) ⌝ }
     ensures { λ r. ⌜ r ≡ countOk (now (c .entry)) ⌝ }
 {
-    fields::count_of(c) == c.len() - 3
+    circuit_fields::count_of(c) == c.len() - 3
 }
 
 // The rules of a circuit after its length and its byte 0.
@@ -47,7 +47,7 @@ fn circuit_rest(c: &[u8]) -> u8
 {
     let rest = logic::rule(gates_ok(c), 21, 0);
     logic::rule(
-        layouts::layout_ok(fields::data_wires(c), fields::layout_of(c)),
+        layouts::layout_ok(fields::data_wires(c), circuit_fields::layout_of(c)),
         9,
         logic::rule(count_ok(c), 10, rest),
     )

@@ -4,14 +4,10 @@ use mathlib.Core.List.{List, _++_}
 use Prim.Native.Nat.{ℕ}
 use lib.ListN.{take}
 use Rattle.logic.specs.Answers.{Answer, refused, answered}
-use Rattle.logic.specs.Words.{bytes}
-use Rattle.pieces.specs.Text.{decimal, lineFeed, foundLine}
+use Rattle.pieces.specs.Text.{foundLine}
 use Rattle.report.specs.Report.{refusedText}
 use Rattle.approximate.specs.Calls.{Close, closestOf}
-
--- `misses NUMBER`
-unfoldable pub missesLine : ℕ → List ℕ
-missesLine k = bytes "misses " ++ (decimal k ++ lineFeed)
+use Rattle.miss_lines.specs.MissLines.{missesLine}
 
 -- how many wanted bits are missed, and the circuit's line as `main` prints one; or a refusal and what it means
 abbrev pub printed : Answer Close → List ℕ

@@ -1,2 +1,1 @@
 pub mod Closeness
-pub mod Inner

@@ -7,7 +7,7 @@ use Rattle.logic.specs.Rules.{both, implies, rule, andThen}
 use Rattle.record.specs.JobRules.{jobCode}
 use Rattle.fields.specs.Jobs.{longer, dataWires, ancillas, wires}
 use Rattle.circuit_rules.specs.CircuitRules.{circuitCode}
-use Rattle.fields.specs.Circuits.{marked}
+use Rattle.circuit_fields.specs.Circuits.{marked}
 
 -- the circuit's checks, then "is the value below 2^W? If not, 20."
 unfoldable pub runCode : List ℕ → ℕ → ℕ

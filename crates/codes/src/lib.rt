@@ -1,15 +1,7 @@
-// The codes of the calls: the first rule that a circuit and a value, a job and a circuit, or a job and the room for its answer break.
+// The first rule that a job and a circuit for it break. What each call is refused for is defined here; calls on one record have their code in
+// `single_codes`.
 ghost use mathlib.Core.Path.{_≡_};
-ghost use Rattle.codes.specs.Codes.{runCode, sameWires, markFits, circuitCodeFor, measureCode, searchCode};
-
-// The rules of running: the circuit's, then that the value has no more bits than it has wires.
-pub fn run_code(c: &[u8], value: u8) -> u8
-    ensures { λ r. ⌜ r ≡ runCode (now (c .entry)) value ⌝ }
-{
-    let code = circuit_rules::circuit_code(c);
-    let w = fields::wires(c);
-    logic::and_then(code, logic::rule(logic::wide(value) < (1 << w), 20, 0))
-}
+ghost use Rattle.codes.specs.Codes.{sameWires, markFits, circuitCodeFor, measureCode};
 
 fn same_wires(job: &[u8], c: &[u8]) -> bool
     ensures { λ r. ⌜ r ≡ sameWires (now (job .entry)) (now (c .entry)) ⌝ }
@@ -24,7 +16,7 @@ fn same_wires(job: &[u8], c: &[u8]) -> bool
 fn mark_fits(job: &[u8], c: &[u8]) -> bool
     ensures { λ r. ⌜ r ≡ markFits (now (job .entry)) (now (c .entry)) ⌝ }
 {
-    logic::implies(fields::marked(c), fields::longer(job))
+    logic::implies(circuit_fields::marked(c), fields::longer(job))
 }
 
 // The rules of a circuit for a job: its own, then that it has the job's wires and no mark that the job has not.
@@ -45,11 +37,4 @@ pub fn measure_code(job: &[u8], c: &[u8]) -> u8
     let code = record::job_code(job);
     let rest = circuit_code_for(job, c);
     logic::and_then(code, rest)
-}
-
-// The rules of searching: the job's, then that the answer has room.
-pub fn search_code(job: &[u8], room: usize) -> u8
-    ensures { λ r. ⌜ r ≡ searchCode (now (job .entry)) room ⌝ }
-{
-    logic::and_then(record::job_code(job), logic::rule(15 <= room, 13, 0))
 }

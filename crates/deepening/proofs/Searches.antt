@@ -14,9 +14,9 @@ use Rattle.problem.specs.Inner.{Past, Dearer, Shortest}
 use Rattle.problem.proofs.Limits.{past-below, found-cost}
 use Rattle.problem.proofs.Listed.{listed, unlisted, gates-are, cost-is, within-parts, within-joined}
 use Rattle.budget.specs.Afford.{reach}
-use Rattle.budget.specs.Sums.{Marked}
+use Rattle.sums.specs.Sums.{Marked}
 use Rattle.budget.proofs.Afford.{reach-most}
-use Rattle.budget.proofs.Sums.{sums-marked}
+use Rattle.sums.proofs.Sums.{sums-marked}
 use Rattle.states.specs.declared.Task.{Task}
 use Rattle.states.specs.declared.Least.{Least}
 use Rattle.states.specs.States.{Fair, Posed, Limited, Bounded, Exact}

@@ -9,7 +9,7 @@ ghost use Prim.Native.Nat.{_≤_};
 ghost use Rattle.choice.specs.Inner.{view};
 ghost use Rattle.problem.specs.Problems.{Problem};
 ghost use Rattle.problem.specs.Inner.{Past, Dearer, Shortest};
-ghost use Rattle.budget.specs.Sums.{Marked};
+ghost use Rattle.sums.specs.Sums.{Marked};
 ghost use Rattle.states.specs.States.{Supplied, Ready, Posed, Limited, Bounded};
 ghost use Rattle.deepening.specs.Deepening.{Counted, Deepened, Priced, Cheapened, limitedTo};
 
@@ -67,7 +67,7 @@ fn at_cost(
         task.gate_limit,
     );
     if most < from {
-        return choice::nothing();
+        return holding::nothing();
     }
     fewest(
         gates,
@@ -137,5 +137,5 @@ pub fn cheaper(
         }
         c += 1;
     }
-    choice::nothing()
+    holding::nothing()
 }

@@ -12,10 +12,10 @@ fn put_sign(out: &mut [u8], i: usize, difference: i32) -> usize
     requires { ⌜ i + 1 ≤ length (now out) ⌝ }
     ensures { λ r. ⌜ Wrote (now (out .entry)) i (sign difference) (now (out .exit)) r ⌝ }
 {
-    if alike::is_negative(difference) {
+    if signed_costs::is_negative(difference) {
         return pieces::put(out, i, b'-');
     }
-    if alike::distance(difference) == 0 {
+    if signed_costs::distance(difference) == 0 {
         return i;
     }
     pieces::put(out, i, b'+')
@@ -28,7 +28,7 @@ fn put_change(out: &mut [u8], difference: i32) -> usize
 {
     let a = pieces::put_text(out, 0, b"by ");
     let b = put_sign(out, a, difference);
-    let c = pieces::put_decimal(out, b, alike::distance(difference) as usize);
+    let c = pieces::put_decimal(out, b, signed_costs::distance(difference) as usize);
     pieces::put(out, c, b'\n')
 }
 
@@ -51,7 +51,7 @@ pub fn put_both(m: Measures, circuit: &[u8], k: Measures, other: &[u8], out: &mu
     ensures { λ r. ⌜ r ≡ length (bothLines m (now (circuit .entry)) k (now (other .entry))) ⌝ }
     ensures { λ _. ⌜ now (out .exit) ≡ inFront (bothLines m (now (circuit .entry)) k (now (other .entry))) (now (out .entry)) ⌝ }
 {
-    let a = put_change(out, alike::cost_difference(m.cost, k.cost));
+    let a = put_change(out, signed_costs::cost_difference(m.cost, k.cost));
     let b = put_found(out, a, m, circuit);
     put_found(out, b, k, other)
 }

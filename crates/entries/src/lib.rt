@@ -1,12 +1,10 @@
-// A library of a caller's own gates, each with its price and duration: its checks, and what a list costs and takes by it.
+// A library of a caller's own gates, each with its price and duration: its checks.
 ghost use mathlib.Core.Path.{_≡_};
 ghost use mathlib.Core.Bool.{true};
-ghost use Prim.Native.Nat.{_<_, _≤_, _+_, _*_, _/_};
+ghost use Prim.Native.Nat.{_<_, _+_, _*_, _/_};
 ghost use lib.ListN.{length};
-ghost use Rattle.logic.specs.Lists.{allOf};
-ghost use Rattle.circuit.specs.Measure.{cost, readyTimes};
-ghost use Rattle.entries.specs.Library.{entriesOf, entryFor, priceIn, durationIn, librarySizeOk, entryOk, entriesOk, librarySound, libraryCode};
-ghost use Rattle.entries.specs.Inner.{entryAt, timed};
+ghost use Rattle.entries.specs.Library.{entriesOf, librarySizeOk, entryOk, entriesOk, librarySound, libraryCode};
+ghost use Rattle.entries.specs.Inner.{entryAt};
 
 // A gate with its price and duration.
 pub struct Entry {
@@ -16,7 +14,7 @@ pub struct Entry {
 }
 
 // The entry at a place of the library.
-fn entry_at(library: &[u8], i: usize) -> Entry
+pub fn entry_at(library: &[u8], i: usize) -> Entry
     requires { ⌜ i < length (now library) / 3 ⌝ }
     ensures { λ r. ⌜ r ≡ entryAt (now (library .entry)) i ⌝ }
 {
@@ -80,76 +78,4 @@ pub fn library_code(job: &[u8], library: &[u8]) -> u8
         return 29;
     }
     logic::rule(library_sound(job, library), 30, 0)
-}
-
-// The first entry of a gate byte, or one with nothing in it.
-fn entry_for(library: &[u8], b: u8) -> Entry
-    ensures { λ r. ⌜ r ≡ entryFor (entriesOf (now (library .entry))) b ⌝ }
-{
-    let mut i = 0;
-    while i < library.len() / 3 {
-        let e = entry_at(library, i);
-        if e.gate == b {
-            return e;
-        }
-        i += 1;
-    }
-    Entry {
-        gate: b,
-        price: 0,
-        duration: 0,
-    }
-}
-
-fn timed(library: &[u8], b: u8) -> bool
-    ensures { λ r. ⌜ r ≡ timed (now (library .entry)) b ⌝ }
-{
-    let e = entry_for(library, b);
-    1 <= e.duration
-}
-
-// Whether the library has a duration for each gate of a list.
-pub fn all_timed(library: &[u8], list: &[u8]) -> bool
-    ensures { λ r. ⌜ r ≡ allOf (timed (now (library .entry))) (now (list .entry)) ⌝ }
-{
-    let mut i = 0;
-    while i < list.len() {
-        if !timed(library, list[i]) {
-            return false;
-        }
-        i += 1;
-    }
-    true
-}
-
-// The cost of a list at the library's prices.
-pub fn cost(library: &[u8], list: &[u8]) -> u16
-    requires { ⌜ length (now list) ≤ 255 ⌝ }
-    ensures { λ r. ⌜ r ≡ cost (priceIn (now (library .entry))) (now (list .entry)) ⌝ }
-{
-    let mut sum: u16 = 0;
-    let mut i = 0;
-    while i < list.len() {
-        let e = entry_for(library, list[i]);
-        sum += e.price as u16;
-        i += 1;
-    }
-    sum
-}
-
-// The ready times of the five wires after a list, at the library's durations.
-pub fn ready_times(library: &[u8], list: &[u8]) -> [u16; 5]
-    requires { ⌜ length (now list) ≤ 255 ⌝ }
-    ensures { λ r. ⌜ r ≡ readyTimes (durationIn (now (library .entry))) (now (list .entry)) ⌝ }
-{
-    let mut times = [0u16; 5];
-    let mut i = 0;
-    while i < list.len() {
-        let b = list[i];
-        let e = entry_for(library, b);
-        let next = circuit::hold(gate::decode(b), e.duration, times);
-        times = next;
-        i += 1;
-    }
-    times
 }

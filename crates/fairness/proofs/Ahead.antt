@@ -9,8 +9,8 @@ use native.Mathlib.Decide.{ℕ-discrete}
 use native.Mathlib.Omega.{arith}
 use lib.ListN.{getD}
 use Rattle.slot.specs.Slots.{Slot, empty, isWorking}
-use Rattle.scheduler.specs.States.{State, slotAt, following, nextWorking, servedBy}
-use Rattle.scheduler.proofs.Serving.{next-here, next-on}
+use Rattle.slot_states.specs.States.{State, slotAt, following, nextWorking, servedBy}
+use Rattle.slot_states.proofs.Serving.{next-here, next-on}
 
 -- how many slots are looked at before slot i
 unfoldable pub ahead : ℕ → ℕ → ℕ

@@ -18,8 +18,8 @@ use Rattle.outcomes.specs.Outcomes.{problemOf, Found, searchCode, searchOver, s
 use Rattle.candidates.specs.Candidates.{candidates}
 use Rattle.candidates.proofs.Alone.{as-alone}
 use Rattle.slot.specs.Slots.{Slot, empty, working, finished, isEmpty, isWorking, isFinished, begun, resultOf}
-use Rattle.scheduler.specs.States.{State, slotAt, withSlot, postCode, postOf, afterPost, servedBy, afterServing, afterTurn, collectCode, collectOf, afterCollect}
-use Rattle.scheduler.proofs.Rules.{post-parts, post-refused, post-accepted, collect-parts, collect-refused, collect-done}
+use Rattle.slot_states.specs.States.{State, slotAt, withSlot, postCode, postOf, afterPost, servedBy, afterServing, afterTurn, collectCode, collectOf, afterCollect}
+use Rattle.slot_states.proofs.Rules.{post-parts, post-refused, post-accepted, collect-parts, collect-refused, collect-done}
 use Rattle.fairness.specs.Histories.{Call, posting, turning, collecting, afterCall, Reachable, ownOf, turnOf, Since, countOf, workingAfter, finishedWith, Standing}
 use Rattle.fairness.proofs.Steps.{Eight, eight, Became, filled, vacated, became, StandingIn, stepped, starting}
 use Rattle.fairness.proofs.Ahead.{ahead, ahead-few, ahead-own, served-found}

@@ -18,9 +18,9 @@ use Rattle.choice.proofs.First.{improve-append}
 use Rattle.problem.specs.Problems.{good}
 use Rattle.outcomes.specs.Outcomes.{problemOf}
 use Rattle.slot.specs.Slots.{Slot, empty, working, finished, isEmpty, isWorking, going, begun, tried}
-use Rattle.scheduler.specs.States.{State, slotAt, withSlot, postCode, afterPost, servedBy, afterServing, afterTurn, collectCode, afterCollect}
-use Rattle.scheduler.proofs.Rules.{post-parts, post-refused, post-accepted, collect-refused, collect-done}
-use Rattle.scheduler.proofs.Serving.{served-is}
+use Rattle.slot_states.specs.States.{State, slotAt, withSlot, postCode, afterPost, servedBy, afterServing, afterTurn, collectCode, afterCollect}
+use Rattle.slot_states.proofs.Rules.{post-parts, post-refused, post-accepted, collect-refused, collect-done}
+use Rattle.slot_states.proofs.Serving.{served-is}
 use Rattle.fairness.specs.Histories.{Call, posting, turning, collecting, afterCall, Reachable, isFor, ownOf}
 
 -- eight slots, one of them served last

@@ -13,7 +13,7 @@ use Rattle.problem.specs.Problems.{good, firstGood}
 use Rattle.outcomes.specs.Outcomes.{problemOf}
 use Rattle.candidates.specs.Candidates.{candidates}
 use Rattle.slot.specs.Slots.{Slot, working, finished, isEmpty}
-use Rattle.scheduler.specs.States.{State, startState, slotAt, postCode, afterPost, servedBy, afterTurn, afterCollect}
+use Rattle.slot_states.specs.States.{State, startState, slotAt, postCode, afterPost, servedBy, afterTurn, afterCollect}
 
 -- the calls: a job posted to a slot, a turn, and a slot collected with so much room for the answer
 pub data Call : Type 0 where

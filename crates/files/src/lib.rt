@@ -7,16 +7,8 @@ ghost use Rattle.outcomes.specs.Outcomes.{reported, written, searchedAnswer, si
 ghost use Rattle.pieces.specs.Text.{inFront};
 ghost use Rattle.cutting.specs.Records.{countOf, jobAt};
 ghost use Rattle.lines.specs.Lines.{lineOf};
-ghost use Rattle.files.specs.Parts.{batchParts, partAt, TellingBatch};
+ghost use Rattle.batch_lines.specs.Parts.{batchParts, partAt};
 ghost use Rattle.rooms.specs.Files.{given, finding, searchText};
-
-// How many bytes of a batch's file are enough: one more than the longest batch has.
-pub fn batch_room() -> usize
-    ensures { λ r. ⌜ TellingBatch r ⌝ }
-    ensures { λ r. ⌜ r ≤ 4096 ⌝ }
-{
-    1793
-}
 
 // Searches, with the library where one is named.
 fn find(job: &[u8], named: bool, library: &[u8], answer: &mut [u8]) -> Searched
@@ -45,14 +37,6 @@ pub fn search_text(job: &[u8], named: bool, library: &[u8], out: &mut [u8]) -> u
     }
 }
 
-// How many parts are printed for a batch: a line for each job, or one refusal.
-pub fn batch_parts(jobs: &[u8]) -> usize
-    ensures { λ r. ⌜ r ≡ length (batchParts (now (jobs .entry))) ⌝ }
-{
-    let cut = cutting::cut_off(jobs);
-    if cut.end == jobs.len() { cut.count } else { 1 }
-}
-
 // Searches for the circuit of job i of a batch and writes its line to the start of `out`; returns its length.
 fn job_line(jobs: &[u8], i: usize, out: &mut [u8]) -> usize
     requires { ⌜ i < countOf (now jobs) ⌝ }
@@ -64,7 +48,7 @@ fn job_line(jobs: &[u8], i: usize, out: &mut [u8]) -> usize
     let place = cutting::record_at(jobs, i);
     let start = place.start;
     let end = place.end;
-    line::line(&jobs[start..end], out)
+    program::line(&jobs[start..end], out)
 }
 
 // Writes part i of what is printed for a batch to the start of `out`; returns its length. Nothing is searched for but job i.

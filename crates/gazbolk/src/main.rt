@@ -1,4 +1,201 @@
-// The program for people: `gazbolk` alone says what it can do.
+// The program for people: its first word is a command, and the words after it are names of files; alone it says what it can do. A program
+// has no exit status here, so the first word of what it prints says how it went.
+ghost use Prim.Native.Nat.{_<_, _≤_};
+ghost use lib.ListN.{length};
+ghost use Rattle.batch_lines.specs.Parts.{batchParts};
+
+// Does what the words after the program's name ask for, or says what can be asked. Several commands may stand there, with `then` between them.
 fn main() {
-    commands::run();
+    let count = arguments::few(os::arg_count());
+    let mut at = run_command(0, count);
+    while at < count {
+        at = run_command(at, count);
+    }
+}
+
+// Runs the command after the word at `at`, the program's name or a `then`, and answers where it ends.
+fn run_command(at: usize, count: usize) -> usize
+    requires { ⌜ (at ≤ count) × (count ≤ 1000000) ⌝ }
+    ensures { λ r. ⌜ (r ≤ count) × (at < count → at < r) ⌝ }
+{
+    let end = arguments::command_end(at, count);
+    let mut word = io::buffer();
+    let n = os::arg(at + 1, &mut word);
+    dispatch(&word[..n], at, end - at);
+    end
+}
+
+// Each command by its name and its number of words, the one before it among them; a library may be named last.
+fn dispatch(word: &[u8], at: usize, words: usize)
+    requires { ⌜ at ≤ 1000000 ⌝ }
+{
+    if arguments::is_asked(word, b"verify", words, 4, 5) {
+        verify(at, words == 5);
+        return;
+    }
+    if arguments::is_asked(word, b"search", words, 3, 4) {
+        search(at, words == 4);
+        return;
+    }
+    if arguments::is_asked(word, b"batch", words, 3, 3) {
+        batch(at);
+        return;
+    }
+    if arguments::is_asked(word, b"compare", words, 4, 4) {
+        compare(at);
+        return;
+    }
+    if arguments::is_asked(word, b"closest", words, 3, 3) {
+        closest(at);
+        return;
+    }
+    if arguments::is_asked(word, b"rewrite", words, 3, 3) {
+        rewrite(at);
+        return;
+    }
+    arguments::usage();
+}
+
+// `gazbolk verify JOB CIRCUIT [LIBRARY]`
+fn verify(at: usize, named: bool)
+    requires { ⌜ at ≤ 1000000 ⌝ }
+{
+    let job = arguments::open(at + 2);
+    let circuit = arguments::open(at + 3);
+    let library = arguments::open_named(named, at + 4);
+    if arguments::all_open(job, circuit, library) {
+        print_verdict(job, circuit, named, library);
+    }
+}
+
+// `gazbolk search JOB [LIBRARY]`
+fn search(at: usize, named: bool)
+    requires { ⌜ at ≤ 1000000 ⌝ }
+{
+    let job = arguments::open(at + 2);
+    let library = arguments::open_named(named, at + 3);
+    if arguments::all_open(job, job, library) {
+        print_finding(job, named, library);
+    }
+}
+
+// `gazbolk batch FILE`
+fn batch(at: usize)
+    requires { ⌜ at ≤ 1000000 ⌝ }
+{
+    let file = arguments::open(at + 2);
+    if file >= 0 {
+        print_batch(file);
+    }
+}
+
+// `gazbolk compare OLD NEW`
+fn compare(at: usize)
+    requires { ⌜ at ≤ 1000000 ⌝ }
+{
+    let old = arguments::open(at + 2);
+    let new = arguments::open(at + 3);
+    if arguments::all_open(old, new, 0) {
+        print_change(old, new);
+    }
+}
+
+// `gazbolk closest JOB`
+fn closest(at: usize)
+    requires { ⌜ at ≤ 1000000 ⌝ }
+{
+    let job = arguments::open(at + 2);
+    if job >= 0 {
+        print_closest(job);
+    }
+}
+
+// `gazbolk rewrite FILE`
+fn rewrite(at: usize)
+    requires { ⌜ at ≤ 1000000 ⌝ }
+{
+    let file = arguments::open(at + 2);
+    if file >= 0 {
+        print_rewriting(file);
+    }
+}
+
+// Judges the circuit of one open file for the job of another, and prints the verdict. As much of each is read as tells it.
+fn print_verdict(job_file: i32, circuit_file: i32, named: bool, library_file: i32) {
+    let mut job = io::buffer();
+    let n = arguments::read_part(true, job_file, rooms::job_room(), &mut job);
+    let mut library = io::buffer();
+    let k = arguments::read_part(named, library_file, rooms::library_room(), &mut library);
+    let mut circuit = io::large_buffer();
+    let m = arguments::read_part(true, circuit_file, rooms::circuit_room(), &mut circuit);
+    let mut out = [0u8; 128];
+    let size = verdicts::verify_text(&job[..n], named, &library[..k], &circuit[..m], &mut out);
+    arguments::say(&out[..size]);
+}
+
+// Searches for the circuit of the job in an open file, and prints what is found. As much of each file is read as tells it.
+fn print_finding(job_file: i32, named: bool, library_file: i32) {
+    let mut job = io::buffer();
+    let n = arguments::read_part(true, job_file, rooms::job_room(), &mut job);
+    let mut library = io::buffer();
+    let k = arguments::read_part(named, library_file, rooms::library_room(), &mut library);
+    let mut out = [0u8; 128];
+    let size = files::search_text(&job[..n], named, &library[..k], &mut out);
+    arguments::say(&out[..size]);
+}
+
+// Prints what a batch in an open file comes to. As much of it is read as tells it.
+fn print_batch(file: i32) {
+    let mut jobs = io::buffer();
+    let n = arguments::read_part(true, file, batch_lines::batch_room(), &mut jobs);
+    print_parts(&jobs[..n]);
+}
+
+// Each part is printed before the next job is looked at, so that a morning's work shows how far it is.
+fn print_parts(jobs: &[u8]) {
+    let count = batch_lines::batch_parts(jobs);
+    let mut i = 0;
+    while i < count {
+        print_part(jobs, i);
+        i += 1;
+    }
+}
+
+fn print_part(jobs: &[u8], i: usize)
+    requires { ⌜ i < length (batchParts (now jobs)) ⌝ }
+{
+    let mut out = [0u8; 128];
+    let size = files::batch_part(jobs, i, &mut out);
+    arguments::say(&out[..size]);
+}
+
+// Compares the jobs in two open files, and prints what that comes to. As much of each is read as tells it.
+fn print_change(old_file: i32, new_file: i32) {
+    let mut old = io::buffer();
+    let n = arguments::read_part(true, old_file, printing::job_room(), &mut old);
+    let mut new = io::buffer();
+    let m = arguments::read_part(true, new_file, printing::job_room(), &mut new);
+    let mut out = [0u8; 256];
+    let size = printing::compare_text(&old[..n], &new[..m], &mut out);
+    arguments::say(&out[..size]);
+}
+
+// Searches for the closest circuit of the job in an open file, and prints it. As much of the file is read as tells it.
+fn print_closest(job_file: i32) {
+    let mut job = io::buffer();
+    let n = arguments::read_part(true, job_file, closeness::job_room(), &mut job);
+    let mut out = [0u8; 128];
+    let size = closeness::closest_text(&job[..n], &mut out);
+    arguments::say(&out[..size]);
+}
+
+// Rewrites the list in an open file, and prints what that comes to. As much of it is read as tells it.
+fn print_rewriting(file: i32) {
+    let mut head = [0u8; 5];
+    let n = io::read_full(file, &mut head);
+    let mut list = io::large_buffer();
+    let m = arguments::read_part(true, file, rewrite_lines::list_room(), &mut list);
+    let mut out = [0u8; 8300];
+    let size = printing::rewrite_text(&head[..n], &mut list[..m], &mut out);
+    arguments::say(&out[..size]);
 }

@@ -63,7 +63,7 @@ fn says_constants(s: &[u8], w: usize) -> bool
     requires { ⌜ w ≤ 5 ⌝ }
     ensures { λ r. ⌜ r ≡ said (now (s .entry)) w ⌝ }
 {
-    words::starts(words::rest(s, 35 + 2 * w), b".constants ")
+    keywords::starts(keywords::rest(s, 35 + 2 * w), b".constants ")
 }
 
 // Whether its word closes with a 0.
@@ -104,9 +104,9 @@ fn numvars_here(s: &[u8], w: usize) -> bool
     ensures { λ r. ⌜ r ≡ starts (numvarsLine w) (now (s .entry)) ⌝ }
 {
     match w {
-        3 => words::starts(s, b".numvars 3\n"),
-        4 => words::starts(s, b".numvars 4\n"),
-        _ => words::starts(s, b".numvars 5\n"),
+        3 => keywords::starts(s, b".numvars 3\n"),
+        4 => keywords::starts(s, b".numvars 4\n"),
+        _ => keywords::starts(s, b".numvars 5\n"),
     }
 }
 
@@ -115,9 +115,9 @@ fn opening_here(s: &[u8], w: usize) -> bool
     requires { ⌜ (3 ≤ w) × (w ≤ 5) ⌝ }
     ensures { λ r. ⌜ r ≡ starts (opening w) (now (s .entry)) ⌝ }
 {
-    let version = words::starts(s, b".version 2.0\n");
-    let numvars = numvars_here(words::rest(s, 13), w);
-    let variables = words::starts(words::rest(s, 24), b".variables");
+    let version = keywords::starts(s, b".version 2.0\n");
+    let numvars = numvars_here(keywords::rest(s, 13), w);
+    let variables = keywords::starts(keywords::rest(s, 24), b".variables");
     logic::both(version, logic::both(numvars, variables))
 }
 
@@ -129,7 +129,7 @@ fn letters_here(s: &[u8], letters: &[u8]) -> bool
     match letters.len() {
         3 => {
             let word = [b' ', letters[0], b' ', letters[1], b' ', letters[2], b'\n'];
-            words::starts(s, &word)
+            keywords::starts(s, &word)
         }
         4 => {
             let word = [
@@ -143,7 +143,7 @@ fn letters_here(s: &[u8], letters: &[u8]) -> bool
                 letters[3],
                 b'\n',
             ];
-            words::starts(s, &word)
+            keywords::starts(s, &word)
         }
         _ => {
             let word = [
@@ -159,7 +159,7 @@ fn letters_here(s: &[u8], letters: &[u8]) -> bool
                 letters[4],
                 b'\n',
             ];
-            words::starts(s, &word)
+            keywords::starts(s, &word)
         }
     }
 }
@@ -171,14 +171,14 @@ fn constants_here(s: &[u8], n: usize, closes: bool) -> bool
 {
     if closes {
         if n == 3 {
-            return words::starts(s, b".constants ---0\n.begin\n");
+            return keywords::starts(s, b".constants ---0\n.begin\n");
         }
-        return words::starts(s, b".constants ----0\n.begin\n");
+        return keywords::starts(s, b".constants ----0\n.begin\n");
     }
     if n == 3 {
-        return words::starts(s, b".constants ---\n.begin\n");
+        return keywords::starts(s, b".constants ---\n.begin\n");
     }
-    words::starts(s, b".constants ----\n.begin\n")
+    keywords::starts(s, b".constants ----\n.begin\n")
 }
 
 // Whether the lines after the letters stand at the start.
@@ -189,7 +189,7 @@ fn closing_here(s: &[u8], n: usize, said: bool, closes: bool) -> bool
     if said {
         constants_here(s, n, closes)
     } else {
-        words::starts(s, b".begin\n")
+        keywords::starts(s, b".begin\n")
     }
 }
 
@@ -204,8 +204,8 @@ fn heading_here(s: &[u8], letters: &[u8], said: bool, closes: bool) -> bool
         return false;
     }
     let opening = opening_here(s, w);
-    let names = letters_here(words::rest(s, 34), letters);
-    let closing = closing_here(words::rest(s, 35 + 2 * w), n, said, closes);
+    let names = letters_here(keywords::rest(s, 34), letters);
+    let closing = closing_here(keywords::rest(s, 35 + 2 * w), n, said, closes);
     logic::both(opening, logic::both(names, closing))
 }
 

@@ -18,7 +18,7 @@ use Rattle.table.specs.Rows.{valueOf, realizes}
 use Rattle.layouts.proofs.Named.{fixed}
 use Rattle.fields.specs.Jobs.{mostControls, dataWires, wires, freeLayout, rows}
 use Rattle.record.proofs.Kept.{sound-job, wires-within}
-use Rattle.parity.specs.Parity.{values, full, distinct, permutes}
+use Rattle.permuting.specs.Values.{values, full, distinct, permutes}
 use Rattle.odd_tables.proofs.Permutation.{permutation}
 use Rattle.problem.specs.Demand.{Admitted}
 use Rattle.outcomes.specs.Outcomes.{GateSet, problemOver}

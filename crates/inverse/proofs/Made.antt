@@ -21,7 +21,7 @@ use Rattle.fields.specs.Jobs.{longer, dataWires, ancillas, freeLayout, gateLimi
 use Rattle.record.specs.JobRules.{jobLengthOk, sizeOk, headOk, limitOk, durationsOk, rowsOk, jobCode}
 use Rattle.record.specs.Inner.{jobRest}
 use Rattle.record.proofs.Kept.{sound-job}
-use Rattle.parity.specs.Parity.{values, fullRow, full, distinct, permutes}
+use Rattle.permuting.specs.Values.{values, fullRow, full, distinct, permutes}
 use Rattle.odd_tables.proofs.Permutation.{permutation}
 use Rattle.outcomes.specs.Outcomes.{searchOf}
 use Rattle.entries.specs.Library.{libraryCode}

@@ -6,7 +6,7 @@ use Rattle.logic.specs.Lists.{allOf}
 use Rattle.table.specs.Rows.{rowOk}
 use Rattle.fields.specs.Jobs.{longer, dataWires, ancillas, freeLayout, gateLimit, durations}
 use Rattle.record.specs.JobRules.{jobLengthOk, sizeOk, headOk, limitOk, durationsOk, rowsOk, jobCode}
-use Rattle.parity.specs.Parity.{full, distinct, permutes}
+use Rattle.permuting.specs.Values.{full, distinct, permutes}
 use Rattle.permutations.specs.Orders.{rowOf}
 use Rattle.inverse.specs.Inverse.{Permutation, Inverse, inverseJob}
 use Rattle.inverse.proofs.Made.{inverse-is}

@@ -24,7 +24,7 @@ use Rattle.table.specs.Rows.{careOf, valueOf, rowOk, bitAgrees, rowAgrees, agre
 use Rattle.table.proofs.Rows.{agrees-at, agrees-all, bare-realizes}
 use Rattle.fields.specs.Jobs.{dataWires, rows}
 use Rattle.record.proofs.Kept.{SoundJob, sound-job}
-use Rattle.parity.specs.Parity.{fullRow, full, values, distinct, permutes}
+use Rattle.permuting.specs.Values.{fullRow, full, values, distinct, permutes}
 use Rattle.inverse.specs.Inverse.{Permutation, valueAt}
 
 -- a row with the full mask and the value t

@@ -9,7 +9,7 @@ use Rattle.logic.specs.Lists.{numbersFrom}
 use Rattle.table.specs.Rows.{valueOf}
 use Rattle.record.specs.JobRules.{jobCode}
 use Rattle.fields.specs.Jobs.{longer, dataWires, ancillas, freeLayout, gateLimit, costLimit, depthLimit, prices, durations, rows}
-use Rattle.parity.specs.Parity.{values, permutes}
+use Rattle.permuting.specs.Values.{values, permutes}
 use Rattle.permutations.specs.Orders.{rowOf}
 
 -- "a full permutation .. in [a] well-formed [job] with m = 0, fixed placing"

@@ -18,7 +18,7 @@ use Rattle.table.specs.Rows.{valueOf, realizes}
 use Rattle.fields.specs.Jobs.{longer, mostControls, dataWires, wires, gateLimit, depthLimit, durations, durationOf, rows}
 use Rattle.record.proofs.Kept.{sound-job}
 use Rattle.fields.proofs.Widths.{two-or-three}
-use Rattle.parity.specs.Parity.{values, full, distinct, permutes}
+use Rattle.permuting.specs.Values.{values, full, distinct, permutes}
 use Rattle.problem.specs.Demand.{Solves}
 use Rattle.outcomes.specs.Outcomes.{problemOver, problemOf}
 use Rattle.repriced.proofs.Jobs.{weight-small, total-small, roomy}

@@ -6,7 +6,7 @@ use Prim.Native.Nat.{ℕ, _≤_, _<_}
 use Rattle.logic.specs.Answers.{refused}
 use Rattle.layouts.specs.Layouts.{plain}
 use Rattle.fields.specs.Jobs.{dataWires, gateLimit}
-use Rattle.parity.specs.Parity.{values}
+use Rattle.permuting.specs.Values.{values}
 use Rattle.outcomes.specs.Outcomes.{searchOf}
 use Rattle.outcomes.proofs.Facts as Search
 use Rattle.permutations.specs.Sizes.{cellOf}

@@ -12,7 +12,7 @@ use Rattle.logic.proofs.Fold.{all-at}
 use Rattle.table.specs.Rows.{rowOk}
 use Rattle.fields.specs.Jobs.{longer, dataWires, ancillas, freeLayout, gateLimit, costLimit, depthLimit, durations}
 use Rattle.record.specs.JobRules.{jobLengthOk, sizeOk, headOk, limitOk, durationsOk, rowsOk, jobCode}
-use Rattle.parity.specs.Parity.{full, distinct, permutes}
+use Rattle.permuting.specs.Values.{full, distinct, permutes}
 use Rattle.repriced.specs.Demand.{Bytes}
 use Rattle.least.specs.Counting.{Counting}
 

@@ -17,11 +17,12 @@ use Rattle.gate.specs.Gates.{lawful, gatesFor}
 use Rattle.gate.proofs.Tables.{gates-most, lawful-among}
 use Rattle.record.specs.JobRules.{jobCode}
 use Rattle.fields.specs.Jobs.{longer, mostControls, wires, priceOf, durationOf}
-use Rattle.fields.specs.Circuits.{gates}
+use Rattle.circuit_fields.specs.Circuits.{gates}
 use Rattle.record.proofs.Kept.{sound-job, wires-within}
 use Rattle.fields.proofs.Widths.{two-or-three}
 use Rattle.measures.specs.Measures.{measuresOf}
-use Rattle.verify.specs.Calls.{measuresFor, circuitCodeFor, measureCode, verifyRest, verifyCode, verifyOf}
+use Rattle.judging.specs.Judging.{verifyRest}
+use Rattle.verify.specs.Calls.{measuresFor, circuitCodeFor, measureCode, verifyCode, verifyOf}
 use Rattle.verify.proofs.Codes.{circuit-parts}
 use Rattle.verify.proofs.Bounds.{lawful-here}
 use Rattle.outcomes.specs.Outcomes.{ownSet, searchOver, searchCode, searchOf}

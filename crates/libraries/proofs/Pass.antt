@@ -12,10 +12,11 @@ use Rattle.logic.proofs.Answers.{answered-with, answered-is, refused-is}
 use Rattle.logic.proofs.Chain.{rule-kept, rule-never, and-then-zero, and-then-never}
 use Rattle.record.specs.JobRules.{jobCode}
 use Rattle.fields.specs.Jobs.{wires}
-use Rattle.fields.specs.Circuits.{gates}
+use Rattle.circuit_fields.specs.Circuits.{gates}
 use Rattle.record.proofs.Never.{job-never}
 use Rattle.measures.specs.declared.Measures.{Measures}
-use Rattle.verify.specs.Calls.{circuitCodeFor, verifyRest}
+use Rattle.judging.specs.Judging.{verifyRest}
+use Rattle.verify.specs.Calls.{circuitCodeFor}
 use Rattle.verify.specs.Demand.{Timed}
 use Rattle.verify.proofs.Pass.{rest-passes, passes-circuit, passes-rest}
 use Rattle.verify.proofs.Ready.{timed}

@@ -7,7 +7,7 @@ use borrow.Author.Tests.{le-leb}
 use lib.ListN.{getD}
 use Rattle.logic.specs.Answers.{refused, answered}
 use Rattle.fields.specs.Jobs.{longer, wires}
-use Rattle.fields.specs.Circuits.{marked}
+use Rattle.circuit_fields.specs.Circuits.{marked}
 use Rattle.verify.specs.Demand.{Timed}
 use Rattle.problem.specs.Demand.{Solves}
 use Rattle.outcomes.specs.Outcomes.{Found}

@@ -6,10 +6,11 @@ use Rattle.logic.specs.Rules.{rule, andThen}
 use Rattle.logic.specs.Lists.{allOf}
 use Rattle.logic.specs.Answers.{Answer, answerOf}
 use Rattle.record.specs.JobRules.{jobCode}
-use Rattle.fields.specs.Circuits.{gates}
+use Rattle.circuit_fields.specs.Circuits.{gates}
 use Rattle.measures.specs.declared.Measures.{Measures}
 use Rattle.measures.specs.Measures.{measuresOf}
-use Rattle.verify.specs.Calls.{circuitCodeFor, verifyRest}
+use Rattle.judging.specs.Judging.{verifyRest}
+use Rattle.verify.specs.Calls.{circuitCodeFor}
 use Rattle.problem.specs.Problems.{Problem}
 use Rattle.outcomes.specs.Outcomes.{GateSet, problemOver, Found, searchOver}
 use Rattle.entries.specs.Library.{gatesIn, priceIn, durationIn, listed, libraryCode}

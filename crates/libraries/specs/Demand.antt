@@ -3,7 +3,7 @@ use mathlib.Core.Path.{_≡_}
 use mathlib.Core.List.{List}
 use Prim.Native.Nat.{ℕ}
 use Rattle.logic.specs.Lists.{Among}
-use Rattle.fields.specs.Circuits.{gates}
+use Rattle.circuit_fields.specs.Circuits.{gates}
 use Rattle.verify.specs.Demand.{PassesAt}
 use Rattle.entries.specs.Library.{gatesIn, priceIn, durationIn, libraryCode}
 

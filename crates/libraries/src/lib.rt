@@ -25,8 +25,8 @@ fn measure_list(library: &[u8], list: &[u8]) -> Measures
     ensures { λ r. ⌜ r ≡ measuresOf (priceIn (now (library .entry))) (durationIn (now (library .entry))) (now (list .entry)) ⌝ }
 {
     let count = list.len() as u8;
-    let sum = entries::cost(library, list);
-    let times = entries::ready_times(library, list);
+    let sum = entry_measures::cost(library, list);
+    let times = entry_measures::ready_times(library, list);
     measures::measures_with(count, sum, times)
 }
 
@@ -35,7 +35,7 @@ fn measures_in(library: &[u8], c: &[u8]) -> Measures
     requires { ⌜ circuitCode (now c) ≡ 0 ⌝ }
     ensures { λ r. ⌜ r ≡ measuresIn (now (library .entry)) (now (c .entry)) ⌝ }
 {
-    measure_list(library, fields::gate_list(c))
+    measure_list(library, circuit_fields::gate_list(c))
 }
 
 fn circuit_with_code(job: &[u8], library: &[u8], c: &[u8]) -> u8
@@ -52,8 +52,8 @@ fn rest_with_code(job: &[u8], library: &[u8], c: &[u8], m: Measures) -> u8
     requires { ⌜ librarySound (now job) (now library) ≡ true ⌝ }
     ensures { λ r. ⌜ r ≡ restWithCode (now (job .entry)) (now (library .entry)) (now (c .entry)) m ⌝ }
 {
-    let listed = entries::all_timed(library, fields::gate_list(c));
-    let rest = verify::verify_rest(job, c, m);
+    let listed = entry_measures::all_timed(library, circuit_fields::gate_list(c));
+    let rest = judging::verify_rest(job, c, m);
     logic::rule(listed, 31, rest)
 }
 

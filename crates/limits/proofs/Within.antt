@@ -5,7 +5,7 @@ use Prim.Native.Nat.{ℕ}
 use lib.Dec.{leb}
 use Rattle.logic.proofs.Chain.{rule-never}
 use Rattle.fields.specs.Jobs.{gateLimit, costLimit, depthLimit}
-use Rattle.fields.specs.Circuits.{gates}
+use Rattle.circuit_fields.specs.Circuits.{gates}
 use Rattle.limits.specs.Limits.{limitsCode}
 use native.Mathlib.Omega.{arith}
 use Rattle.logic.specs.Answers.{refused}

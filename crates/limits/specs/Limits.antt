@@ -4,7 +4,7 @@ use Prim.Native.Nat.{ℕ}
 use lib.Dec.{leb}
 use Rattle.logic.specs.Rules.{rule}
 use Rattle.fields.specs.Jobs.{gateLimit, costLimit, depthLimit}
-use Rattle.fields.specs.Circuits.{gates}
+use Rattle.circuit_fields.specs.Circuits.{gates}
 use Rattle.measures.specs.declared.Measures.{Measures}
 
 -- "Gates within the limit? If not, 17. Cost? If not, 18. Depth? If not, 19."

@@ -8,3 +8,4 @@ pub mod Xor
 pub mod Cells
 pub mod Answers
 pub mod Prefixes
+pub mod Rest

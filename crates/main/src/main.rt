@@ -1,4 +1,6 @@
+use libc::STDIN_FILENO;
+
 // Reads one job from standard input and prints its line.
 fn main() {
-    program::answer();
+    program::answer(STDIN_FILENO);
 }

@@ -25,7 +25,7 @@ pub fn measures_with(gates: u8, cost: u16, times: [u16; 5]) -> Measures
     Measures {
         gates: gates,
         cost: cost,
-        depth: circuit::latest(times),
+        depth: timing::latest(times),
         ready0: times[0],
         ready1: times[1],
         ready2: times[2],
@@ -41,6 +41,6 @@ pub fn measure_list(list: &[u8], prices: Weights, durations: Weights) -> Measure
 {
     let count = list.len() as u8;
     let cost = circuit::cost(list, prices);
-    let times = circuit::ready_times(list, durations);
+    let times = timing::ready_times(list, durations);
     measures_with(count, cost, times)
 }

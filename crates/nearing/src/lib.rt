@@ -5,113 +5,12 @@ use states::Least;
 use states::Node;
 use states::Task;
 ghost use mathlib.Core.Path.{_≡_};
-ghost use mathlib.Core.Bool.{true, false};
 ghost use Prim.Native.Nat.{_+_, _≤_, _<_};
-ghost use lib.ListN.{length};
-ghost use Rattle.gate.specs.Gates.{targetOf};
-ghost use Rattle.layouts.specs.Layouts.{Width};
-ghost use Rattle.choice.specs.Choices.{attempt, improve};
 ghost use Rattle.choice.specs.Inner.{view};
-ghost use Rattle.problem.specs.Problems.{Problem, choiceOf, here, within, firstGood};
-ghost use Rattle.pruned.specs.Pruned.{triedUnder, triedBy};
-ghost use Rattle.products.specs.Products.{tableOf};
-ghost use Rattle.states.specs.States.{listOf, Slices, Small, Fair, Asks, Posed, Limited, At, Lists, needless};
-ghost use Rattle.nearing.specs.Loose.{loosened};
-
-// Offers the list so far with one layout, if that is good and misses at most `k` wanted bits.
-fn try_layout(task: Task, s: Node, k: usize, p: u8, best: Best) -> Best
-    requires { ⌜ (s .len ≤ 12) × (best .len ≤ 12) ⌝ }
-    ensures { λ r. ⌜ ((P : Problem) → Asks P task → At P s → view r ≡ attempt (within (loosened task k P) (task .«cost_limit»)) (view best) (choiceOf P (listOf s) p)) ⌝ }
-    ensures { λ r. ⌜ r .len ≤ 12 ⌝ }
-{
-    let wanted = task.wanted;
-    let columns = s.columns;
-    let times = s.times;
-    let depth = circuit::latest(times);
-    let cheap = logic::both(
-        s.cost as usize <= task.cost_limit,
-        depth as usize <= task.depth_limit,
-    );
-    if !logic::both(misses::nearly(wanted, task.outputs, k, columns, p), cheap) {
-        return best;
-    }
-    let path = s.path;
-    let mine = Best {
-        found: true,
-        cost: s.cost,
-        depth,
-        layout: p,
-        len: s.len,
-        path,
-    };
-    choice::offer(best, mine)
-}
-
-// Offers the list so far with each allowed layout.
-fn consider(task: Task, s: Node, k: usize, best: Best) -> Best
-    requires { ⌜ Width (task .outputs) ⌝ }
-    requires { ⌜ (s .len ≤ 12) × (best .len ≤ 12) ⌝ }
-    ensures { λ r. ⌜ ((P : Problem) → Asks P task → At P s → view r ≡ improve (within (loosened task k P) (task .«cost_limit»)) (view best) (here (loosened task k P) (listOf s))) ⌝ }
-    ensures { λ r. ⌜ r .len ≤ 12 ⌝ }
-{
-    let count = layouts::layout_count(task.outputs, task.free);
-    let mut b = best;
-    let mut i = 0;
-    while i < count {
-        let p = layouts::layout_at(task.outputs, task.free, i);
-        let next = try_layout(task, s, k, p, b);
-        b = next;
-        i += 1;
-    }
-    b
-}
-
-// The same, but for lists of which every layout misses more.
-fn consider_near(task: Task, s: Node, k: usize, best: Best) -> Best
-    requires { ⌜ Width (task .outputs) ⌝ }
-    requires { ⌜ (s .len ≤ 12) × (best .len ≤ 12) ⌝ }
-    ensures { λ r. ⌜ ((P : Problem) → Asks P task → At P s → view r ≡ improve (within (loosened task k P) (task .«cost_limit»)) (view best) (here (loosened task k P) (listOf s))) ⌝ }
-    ensures { λ r. ⌜ r .len ≤ 12 ⌝ }
-{
-    let wanted = task.wanted;
-    let columns = s.columns;
-    if k < misses::missed_at_least(wanted, columns, task.outputs, task.free, 0) {
-        return best;
-    }
-    consider(task, s, k, best)
-}
-
-// Whether one gate of a node, with up to `rest` gates after it, can lead to something better than what is held.
-fn hopeful(
-    table: &[u16],
-    task: Task,
-    s: Node,
-    entry: Entry,
-    rest: usize,
-    k: usize,
-    best: Best,
-) -> bool
-    requires { ⌜ (length (now table) ≡ 40) × (targetOf (entry .gate) < 5) ⌝ }
-    requires { ⌜ Fair task × (s .len < 12) ⌝ }
-    requires { ⌜ Small s ⌝ }
-    ensures { λ r. ⌜ ((P : Problem) → Asks P task → At P s → Lists P entry → now (table .entry) ≡ tableOf (task .controls) (task .wanted) (s .columns) → r ≡ false → view best ≡ triedBy needless (loosened task k P) (task .«cost_limit») (listOf s) rest (entry .gate) (view best)) ⌝ }
-    ensures { λ r. ⌜ ((P : Problem) → Asks P task → At P s → Lists P entry → now (table .entry) ≡ tableOf (task .controls) (task .wanted) (s .columns) → r ≡ true → needless (listOf s) (entry .gate) ≡ false) ⌝ }
-{
-    if skipping::needless(table, s, entry.gate) {
-        return false;
-    }
-    let cost = s.cost as usize + entry.price as usize;
-    if offers::dear(task.cost_limit, cost, s.len + 1, best) {
-        return false;
-    }
-    let wanted = task.wanted;
-    let columns = s.columns;
-    let next = products::step(table, columns, entry.gate);
-    if k < misses::missed_at_least(wanted, next, task.outputs, task.free, rest) {
-        return false;
-    }
-    skipping::in_time(task, s, entry)
-}
+ghost use Rattle.problem.specs.Problems.{Problem, firstGood};
+ghost use Rattle.pruned.specs.Pruned.{triedUnder};
+ghost use Rattle.states.specs.States.{listOf, Slices, Small, Fair, Posed, Limited, At, needless};
+ghost use Rattle.loosening.specs.Loose.{loosened};
 
 // What is held once every list that begins with the node's and goes on by at most `remaining` gates, none of them needless, was looked at.
 fn dfs(
@@ -131,13 +30,13 @@ fn dfs(
     ensures { λ r. ⌜ ((P : Problem) → Posed P task (now (gates .entry)) (now (prices .entry)) (now (durations .entry)) → At P s → view r ≡ triedUnder needless (loosened task k P) (task .«cost_limit») (listOf s) remaining (view best)) ⌝ }
     ensures { λ r. ⌜ r .len ≤ 12 ⌝ }
 {
-    let mut b = consider_near(task, s, k, best);
+    let mut b = loosening::consider_near(task, s, k, best);
     if remaining == 0 {
         return b;
     }
     let wanted = task.wanted;
     let columns = s.columns;
-    let table = products::table_of(task.controls, wanted, columns);
+    let table = product_tables::table_of(task.controls, wanted, columns);
     let mut i = 0;
     while i < gates.len() {
         let entry = Entry {
@@ -145,7 +44,7 @@ fn dfs(
             price: prices[i],
             duration: durations[i],
         };
-        if hopeful(&table, task, s, entry, remaining - 1, k, b) {
+        if loosening::hopeful(&table, task, s, entry, remaining - 1, k, b) {
             let none = Least {
                 low: 0,
                 extra: 0,
@@ -176,6 +75,6 @@ pub fn run(gates: &[u8], prices: &[u8], durations: &[u8], task: Task, k: usize) 
         walk::root(0),
         most,
         k,
-        choice::nothing(),
+        holding::nothing(),
     )
 }

@@ -43,7 +43,7 @@ pub fn eligible(
     if !reach::open(wires, g) {
         return false;
     }
-    plan::worth(table, plan, n, free, g, most)
+    mending::worth(table, plan, n, free, g, most)
 }
 
 // Whether one gate of a node, where at most `most` gates may still come, can lead to something better than what is held.
@@ -72,7 +72,7 @@ pub fn promising(
     }
     let wanted = task.wanted;
     let columns = s.columns;
-    let next = products::step(table, columns, entry.gate);
+    let next = product_steps::step(table, columns, entry.gate);
     if !reach::near_enough(bits, reach, next, most - 1) {
         return false;
     }

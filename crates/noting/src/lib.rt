@@ -15,7 +15,7 @@ fn mark_unless(but: usize, w: usize, size: u32, hash: usize, bits: &mut [u64])
     ensures { λ r. ⌜ ((w ≡ but → ⊥) → litAt (now (bits .exit)) (keyOf size hash) ≡ true) ⌝ }
 {
     if w != but {
-        hashes::mark(size, hash, bits);
+        bit_sets::mark(size, hash, bits);
     }
 }
 
@@ -69,7 +69,7 @@ pub fn note(reach: Reach, columns: [u16; 5], but: usize, bits: &mut [u64])
     let size = reach.size;
     let parts = hashes::shares(reach, columns);
     let hash = hashes::whole(parts);
-    hashes::mark(size, hash, bits);
+    bit_sets::mark(size, hash, bits);
     mark_less(size, hash, parts, 5, but, bits);
     mark_pairs(size, hash, parts, but, bits);
 }

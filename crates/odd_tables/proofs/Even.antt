@@ -15,7 +15,8 @@ use Rattle.gate.specs.Gates.{maskOf, lawful, step}
 use Rattle.gate.proofs.Widen.{parts}
 use Rattle.running.specs.Run.{forwards}
 use Rattle.layouts.specs.Layouts.{layoutOk}
-use Rattle.parity.specs.Parity.{odd, parityBy, inversions}
+use Rattle.permuting.specs.Values.{inversions}
+use Rattle.parity.specs.Parity.{odd, parityBy}
 use Rattle.odd_tables.specs.Ends.{endsOf, threeControls, threeControlGates}
 use Rattle.odd_tables.specs.Inner.{laidOut}
 use Rattle.parity.proofs.Odd.{odd-when}

@@ -13,7 +13,7 @@ use Rattle.logic.proofs.Below.{below}
 use Rattle.gate.specs.Gates.{lawful, step}
 use Rattle.gate.proofs.Widen.{lawful-lt}
 use Rattle.layouts.specs.Layouts.{layoutOk}
-use Rattle.parity.specs.Parity.{smaller, inversions}
+use Rattle.permuting.specs.Values.{smaller, inversions}
 use Rattle.odd_tables.specs.Ends.{threeControls}
 use Rattle.odd_tables.specs.Inner.{laidOut}
 use Rattle.odd_tables.proofs.Pairs.{pairs, sorted, pairs-sorted}

@@ -8,7 +8,7 @@ use lib.Dec.{leb}
 use Rattle.logic.specs.Rules.{pick}
 use Rattle.logic.specs.Lists.{allOf, total}
 use Rattle.logic.proofs.Chain.{both-left, both-right}
-use Rattle.parity.specs.Parity.{lower, smaller, inversions}
+use Rattle.permuting.specs.Values.{lower, smaller, inversions}
 
 -- a number for each pair, the earlier element first
 abbrev pub Relation : Type 0

@@ -20,7 +20,7 @@ use Rattle.table.specs.Rows.{careOf, valueOf, rowOk}
 use Rattle.record.specs.JobRules.{jobCode}
 use Rattle.fields.specs.Jobs.{dataWires, rows}
 use Rattle.record.proofs.Kept.{sound-job}
-use Rattle.parity.specs.Parity.{values, differs, distinct}
+use Rattle.permuting.specs.Values.{values, differs, distinct}
 
 abbrev sumBelow : ℕ → (ℕ → ℕ) → ℕ
 sumBelow zero f = 0

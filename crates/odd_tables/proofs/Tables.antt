@@ -19,7 +19,8 @@ use Rattle.running.specs.Run.{forwards}
 use Rattle.table.specs.Rows.{careOf, valueOf}
 use Rattle.fields.specs.Jobs.{dataWires, rows}
 use Rattle.layouts.specs.Layouts.{wireOf, layoutOk}
-use Rattle.parity.specs.Parity.{odd, values, fullRow, full, distinct, permutes, inversions, tableParity}
+use Rattle.permuting.specs.Values.{values, fullRow, full, distinct, permutes, inversions}
+use Rattle.parity.specs.Parity.{odd, tableParity}
 use Rattle.odd_tables.specs.Ends.{threeControlGates}
 use Rattle.odd_tables.specs.Inner.{laidOut}
 use Rattle.parity.proofs.Odd.{odd-parts}

@@ -10,7 +10,7 @@ use borrow.Author.Tests.{lt-ltb, le-ltb, ltb-true, ltb-false}
 use lib.Dec.{ltb}
 use Rattle.logic.specs.Lists.{allOf, total, numbersFrom}
 use Rattle.logic.proofs.Chain.{both-left, both-right, both-true}
-use Rattle.parity.specs.Parity.{lower, smaller, inversions}
+use Rattle.permuting.specs.Values.{lower, smaller, inversions}
 use Rattle.odd_tables.proofs.Pairs.{Relation, Symmetric, pairs, as-pairs, pairs-map, pairs-add, pairs-mod}
 
 -- the rows of four wires

@@ -27,7 +27,7 @@ fn try_layout(task: Task, s: Node, p: u8, best: Best) -> Best
     let wanted = task.wanted;
     let columns = s.columns;
     let times = s.times;
-    let depth = circuit::latest(times);
+    let depth = timing::latest(times);
     let cheap = logic::both(
         s.cost as usize <= task.cost_limit,
         depth as usize <= task.depth_limit,
@@ -44,7 +44,7 @@ fn try_layout(task: Task, s: Node, p: u8, best: Best) -> Best
         len: s.len,
         path,
     };
-    choice::offer(best, mine)
+    holding::offer(best, mine)
 }
 
 // Offers the list so far with each allowed layout.

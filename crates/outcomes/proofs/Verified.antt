@@ -22,7 +22,7 @@ use Rattle.layouts.proofs.Layouts.{layout-is, layout-has, allowed-ok}
 use Rattle.record.specs.JobRules.{jobCode}
 use Rattle.fields.specs.Jobs.{longer, mostControls, dataWires, ancillas, wires, freeLayout, priceOf, durationOf, rows}
 use Rattle.circuit_rules.specs.CircuitRules.{circuitCode}
-use Rattle.fields.specs.Circuits.{marked, layoutOf, gates, circuitBytes}
+use Rattle.circuit_fields.specs.Circuits.{marked, layoutOf, gates, circuitBytes}
 use Rattle.circuit_rules.proofs.Written as Written
 use Rattle.record.proofs.Kept.{sound-job, wires-within}
 use Rattle.measures.specs.Measures.{measuresOf}

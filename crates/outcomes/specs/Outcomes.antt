@@ -11,7 +11,7 @@ use Rattle.layouts.specs.Layouts.{layoutsFor}
 use Rattle.table.specs.Rows.{realizes}
 use Rattle.fields.specs.Jobs.{longer, mostControls, dataWires, ancillas, wires, freeLayout, gateLimit, costLimit, depthLimit}
 use Rattle.fields.specs.Jobs.{priceOf, durationOf, rows}
-use Rattle.fields.specs.Circuits.{circuitBytes}
+use Rattle.circuit_fields.specs.Circuits.{circuitBytes}
 use Rattle.measures.specs.declared.Measures.{Measures}
 use Rattle.measures.specs.Measures.{measuresOf}
 use Rattle.choice.specs.Choices.{Choice}

@@ -13,7 +13,7 @@ use Rattle.logic.specs.Rules.{both, pick}
 use Rattle.logic.specs.Lists.{allOf, keepOnly}
 use Rattle.logic.proofs.Chain.{both-left, both-right, both-true}
 use Rattle.logic.proofs.Members.{member-at, all-member, all-members, keep-is}
-use Rattle.parity.specs.Parity.{differs, distinct}
+use Rattle.permuting.specs.Values.{differs, distinct}
 use Rattle.choice.specs.Choices.{lexLess}
 use Rattle.choice.proofs.Order.{lex-lt, lex-eq}
 use Rattle.permutations.specs.Orders.{without, orders, eight, permutations, factorial}

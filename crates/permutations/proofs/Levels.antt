@@ -17,7 +17,7 @@ use Rattle.logic.proofs.Chain.{not-so}
 use Rattle.logic.proofs.Counts.{same-truth}
 use Rattle.logic.proofs.Members.{all-member, numbers-at, among-nil}
 use Rattle.gate.specs.Gates.{step}
-use Rattle.parity.specs.Parity.{differs}
+use Rattle.permuting.specs.Values.{differs}
 use Rattle.permutations.specs.Orders.{eight, permutations, Arranges, rankAmong, rankOf, rowOf, factorial}
 use Rattle.permutations.specs.Sizes.{twelve, Makes, madeBy, leastBelow, sizeOf, sizes}
 use Rattle.permutations.specs.Inner.{neighborOf, permutationAt, apart, grown, Level, Swept}

@@ -15,7 +15,7 @@ use Rattle.logic.specs.Rules.{pick}
 use Rattle.logic.specs.Lists.{allOf, keepOnly}
 use Rattle.logic.proofs.Chain.{both-left, both-right, both-true}
 use Rattle.logic.proofs.Members.{member-at, all-member, all-members, keep-is}
-use Rattle.parity.specs.Parity.{differs, distinct}
+use Rattle.permuting.specs.Values.{differs, distinct}
 use Rattle.permutations.specs.Orders.{without, rowOf}
 
 pub map-at : {A B : Type 0} (f : A → B) (l : List A) (i : ℕ) (d : A) (e : B) → i < length l → getD (map f l) i e ≡ f (getD l i d)

@@ -18,7 +18,7 @@ use Rattle.logic.proofs.Members.{member-at, all-member, keep-is, among-head, nu
 use Rattle.gate.specs.Gates.{step}
 use Rattle.gate.proofs.Undo.{undo, stay}
 use Rattle.gate.proofs.Tables.{gate-is}
-use Rattle.parity.specs.Parity.{distinct}
+use Rattle.permuting.specs.Values.{distinct}
 use Rattle.permutations.specs.Orders.{without, orders, eight, permutations, Arranges, rowOf, factorial, rankAmong, rankOf}
 use Rattle.permutations.specs.Sizes.{twelve}
 use Rattle.permutations.specs.Inner.{inMask, members, arranged, placed, neighborOf, permutationAt}

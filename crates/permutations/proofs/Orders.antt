@@ -10,7 +10,7 @@ use lib.ListN.{length, getD, length-map}
 use Rattle.logic.specs.Lists.{allOf}
 use Rattle.logic.proofs.Chain.{both-left, both-right, both-true}
 use Rattle.logic.proofs.Members.{member-at, all-member, all-members, keep-is, keep-has, among-cons, among-head, among-tail}
-use Rattle.parity.specs.Parity.{differs, distinct}
+use Rattle.permuting.specs.Values.{differs, distinct}
 use Rattle.permutations.specs.Orders.{without, orders, eight, permutations, Arranges, rowOf, factorial, rankAmong, rankOf}
 use Rattle.permutations.specs.Inner.{permutationAt}
 use Rattle.permutations.proofs.Lists.{map-at, flat-length, flat-at, keep-distinct, without-length, row-of-is, row-of-at}

@@ -11,7 +11,7 @@ use Rattle.logic.specs.Rules.{both, pick}
 use Rattle.logic.specs.Bit.{bitOf}
 use Rattle.logic.specs.Lists.{allOf, keepOnly}
 use Rattle.gate.specs.Gates.{step}
-use Rattle.parity.specs.Parity.{differs}
+use Rattle.permuting.specs.Values.{differs}
 use Rattle.permutations.specs.Orders.{eight, permutations, factorial}
 use Rattle.permutations.specs.Sizes.{madeBy, leastBelow}
 

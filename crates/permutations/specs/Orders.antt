@@ -7,7 +7,7 @@ use lib.Dec.{eqb}
 use lib.ListN.{length}
 use Rattle.logic.specs.Rules.{pick}
 use Rattle.logic.specs.Lists.{keepOnly, numbersFrom, Among}
-use Rattle.parity.specs.Parity.{differs, distinct}
+use Rattle.permuting.specs.Values.{differs, distinct}
 
 -- the values but x
 abbrev pub without : ℕ → List ℕ → List ℕ

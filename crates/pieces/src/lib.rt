@@ -1,9 +1,8 @@
-// Pieces of a text laid into a buffer: bytes, decimal numbers, hexadecimal.
-ghost use mathlib.Core.Path.{_≡_};
+// Pieces of a text laid into a buffer: bytes and decimal numbers.
 ghost use mathlib.Core.List.{[], _∷_};
-ghost use Prim.Native.Nat.{_+_, _*_, _<_, _≤_};
+ghost use Prim.Native.Nat.{_+_, _<_, _≤_};
 ghost use lib.ListN.{length};
-ghost use Rattle.pieces.specs.Text.{place, decimal, hexDigit, hexOf, spaced};
+ghost use Rattle.pieces.specs.Text.{place, decimal, spaced};
 ghost use Rattle.pieces.specs.Writing.{Wrote};
 
 // Writes one byte at an index, and answers the next index, as all below.
@@ -57,26 +56,4 @@ pub fn put_spaced(out: &mut [u8], i: usize, n: usize) -> usize
 {
     let end = put_decimal(out, i, n);
     put(out, end, b' ')
-}
-
-fn hex_digit(d: u8) -> u8
-    requires { ⌜ d < 16 ⌝ }
-    ensures { λ r. ⌜ r ≡ hexDigit d ⌝ }
-{
-    if d < 10 { 48 + d } else { 55 + d }
-}
-
-pub fn put_hex(out: &mut [u8], i: usize, bytes: &[u8]) -> usize
-    requires { ⌜ i + 2 * length (now bytes) ≤ length (now out) ⌝ }
-    ensures { λ r. ⌜ Wrote (now (out .entry)) i (hexOf (now (bytes .entry))) (now (out .exit)) r ⌝ }
-{
-    let mut k = 0;
-    while k < bytes.len() {
-        let high = hex_digit(bytes[k] / 16);
-        let low = hex_digit(bytes[k] % 16);
-        out[i + 2 * k] = high;
-        out[i + 2 * k + 1] = low;
-        k += 1;
-    }
-    i + 2 * k
 }

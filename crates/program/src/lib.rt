@@ -1,13 +1,33 @@
-// The program: `main`, and the crates that run it on other inputs, call this and nothing else.
-use libc::STDIN_FILENO;
+// The program: from a job's bytes to the bytes of the line that `main` prints, and the reading and printing around it. `main` calls this and
+// nothing else, and the test program that runs it on other inputs calls the same.
 use libc::STDOUT_FILENO;
+use outcomes::Searched;
+ghost use mathlib.Core.Path.{_≡_};
+ghost use Prim.Native.Nat.{_≤_};
+ghost use lib.ListN.{length};
+ghost use Rattle.pieces.specs.Text.{inFront};
+ghost use Rattle.lines.specs.Lines.{lineOf};
 
-// Reads one job from standard input and prints its line.
-pub fn answer() {
-    let mut input = io::buffer();
+// Searches for a job's circuit and writes the line to the start of `out`; returns the line's length.
+pub fn line(job: &[u8], out: &mut [u8]) -> usize
+    requires { ⌜ 64 ≤ length (now out) ⌝ }
+    ensures { λ r. ⌜ r ≡ length (lineOf (now (job .entry))) ⌝ }
+    ensures { λ r. ⌜ r ≤ 64 ⌝ }
+    ensures { λ _. ⌜ now (out .exit) ≡ inFront (lineOf (now (job .entry))) (now (out .entry)) ⌝ }
+{
+    let mut answer = [0u8; 15];
+    match search::search(job, &mut answer) {
+        Searched::Refused(code) => text::refused_line(code, out),
+        Searched::Found(size, m) => text::found_line(m, &answer[..size], out),
+    }
+}
+
+// Reads one job from an open file, standard input in `main`, and prints its line.
+pub fn answer(input: i32) {
+    let mut job = io::buffer();
     let room = lines::room();
-    let n = io::read_full(STDIN_FILENO, &mut input[..room]);
+    let n = io::read_full(input, &mut job[..room]);
     let mut out = [0u8; 64];
-    let size = line::line(&input[..n], &mut out);
+    let size = line(&job[..n], &mut out);
     io::write_all(STDOUT_FILENO, &out[..size]);
 }

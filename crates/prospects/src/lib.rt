@@ -23,7 +23,7 @@ pub fn least_of(gates: &[u8], prices: &[u8], task: Task) -> Least
     Least {
         low,
         extra: budget::extra(gates, prices, low),
-        needs: span::needed(wanted, columns::start_columns(), task.outputs),
+        needs: elimination::needed(wanted, table_columns::start_columns(), task.outputs),
     }
 }
 
@@ -80,7 +80,7 @@ pub fn widened(
     }
     let radius = radius_for(gates.len(), most_cheaper(task, least, held));
     let wanted = task.wanted;
-    filters::filter_for(
+    filtering::filter_for(
         gates,
         wanted,
         task.outputs,

@@ -2,107 +2,21 @@
 // ask for a state of which one or two wires are still open. A collision only makes the set larger.
 use hashes::Reach;
 ghost use mathlib.Core.Path.{_≡_};
-ghost use mathlib.Core.Bool.{Bool, false, not};
-ghost use Prim.Native.Nat.{ℕ, _≤_, _<_};
-ghost use Rattle.logic.specs.Rules.{bit, someBelow};
+ghost use mathlib.Core.Bool.{false, not};
+ghost use Prim.Native.Nat.{_≤_, _<_};
 ghost use Rattle.logic.specs.Bit.{bitOf};
 ghost use Rattle.gate.specs.Gates.{targetOf};
-ghost use Rattle.hashes.specs.Reach.{sharesOf, partOf, held, openOn};
+ghost use Rattle.hashes.specs.Reach.{sharesOf, held};
 
 // Whether a state is not in the set: then no list within the radius finishes from it.
 pub fn beyond(bits: &[u64], reach: Reach, columns: [u16; 5]) -> bool
     ensures { λ r. ⌜ r ≡ not (held (now (bits .entry)) (reach .size) (sharesOf reach columns) 5 5) ⌝ }
 {
     let size = reach.size;
-    !hashes::lit(
+    !bit_sets::lit(
         bits,
-        hashes::key(size, hashes::whole(hashes::shares(reach, columns))),
+        bit_sets::key(size, hashes::whole(hashes::shares(reach, columns))),
     )
-}
-
-// The hash without two wires, or without one that is named twice.
-fn part(shares: [u32; 5], a: usize, b: usize) -> usize
-    requires { ⌜ (a < 5) × (b < 5) ⌝ }
-    ensures { λ r. ⌜ r ≡ partOf shares a b ⌝ }
-{
-    let rest = hashes::whole(shares) - hashes::word_at(shares, a);
-    if a == b {
-        rest
-    } else {
-        rest - hashes::word_at(shares, b)
-    }
-}
-
-// Whether a state without two wires is in the set.
-fn holds(bits: &[u64], size: u32, shares: [u32; 5], a: usize, b: usize) -> bool
-    requires { ⌜ (a < 5) × (b < 5) ⌝ }
-    ensures { λ r. ⌜ r ≡ held (now (bits .entry)) size shares a b ⌝ }
-{
-    hashes::lit(bits, hashes::key(size, part(shares, a, b)))
-}
-
-// 1 where one of five holds.
-fn any_of(a: bool, b: bool, c: bool, d: bool, e: bool) -> usize
-    ensures { λ r. ⌜ ((f : ℕ → Bool) → a ≡ f 0 → b ≡ f 1 → c ≡ f 2 → d ≡ f 3 → e ≡ f 4 → r ≡ bit (someBelow 5 f)) ⌝ }
-    ensures { λ r. ⌜ r < 2 ⌝ }
-{
-    one(logic::either(e, logic::either(d, logic::either(c, logic::either(b, a)))))
-}
-
-// The wires, a bit each, without which alone the state is in the set.
-fn open_alone(bits: &[u64], size: u32, shares: [u32; 5]) -> usize
-    ensures { λ r. ⌜ ((w : ℕ) → w < 5 → bitOf w r ≡ bit (held (now (bits .entry)) size shares w w)) ⌝ }
-{
-    one(holds(bits, size, shares, 0, 0))
-        + 2 * one(holds(bits, size, shares, 1, 1))
-        + 4 * one(holds(bits, size, shares, 2, 2))
-        + 8 * one(holds(bits, size, shares, 3, 3))
-        + 16 * one(holds(bits, size, shares, 4, 4))
-}
-
-// The wires, a bit each, without which and some other, or without which alone, the state is in the set. Each pair is looked up once, and none
-// waits for another.
-fn open_pairs(bits: &[u64], size: u32, shares: [u32; 5]) -> usize
-    ensures { λ r. ⌜ ((w : ℕ) → w < 5 → bitOf w r ≡ bit (someBelow 5 (held (now (bits .entry)) size shares w))) ⌝ }
-{
-    let aa = holds(bits, size, shares, 0, 0);
-    let ab = holds(bits, size, shares, 0, 1);
-    let ac = holds(bits, size, shares, 0, 2);
-    let ad = holds(bits, size, shares, 0, 3);
-    let ae = holds(bits, size, shares, 0, 4);
-    let bb = holds(bits, size, shares, 1, 1);
-    let bc = holds(bits, size, shares, 1, 2);
-    let bd = holds(bits, size, shares, 1, 3);
-    let be = holds(bits, size, shares, 1, 4);
-    let cc = holds(bits, size, shares, 2, 2);
-    let cd = holds(bits, size, shares, 2, 3);
-    let ce = holds(bits, size, shares, 2, 4);
-    let dd = holds(bits, size, shares, 3, 3);
-    let de = holds(bits, size, shares, 3, 4);
-    let ee = holds(bits, size, shares, 4, 4);
-    any_of(aa, ab, ac, ad, ae)
-        + 2 * any_of(ab, bb, bc, bd, be)
-        + 4 * any_of(ac, bc, cc, cd, ce)
-        + 8 * any_of(ad, bd, cd, dd, de)
-        + 16 * any_of(ae, be, ce, de, ee)
-}
-
-// The wires, a bit each, that a gate may be on if it begins a way to finish and at most `left` gates come after it.
-pub fn open_wires(bits: &[u64], reach: Reach, columns: [u16; 5], left: usize) -> usize
-    ensures { λ r. ⌜ ((w : ℕ) → w < 5 → bitOf w r ≡ bit (openOn (now (bits .entry)) reach (sharesOf reach columns) left w)) ⌝ }
-{
-    if bits.len() == 0 {
-        return 31;
-    }
-    let size = reach.size;
-    let radius = reach.radius;
-    if left <= radius {
-        return open_alone(bits, size, hashes::shares(reach, columns));
-    }
-    if left - 1 <= radius {
-        return open_pairs(bits, size, hashes::shares(reach, columns));
-    }
-    31
 }
 
 // Whether a gate's target is among the open wires.
@@ -110,14 +24,6 @@ pub fn open(wires: usize, g: u8) -> bool
     ensures { λ r. ⌜ (r ≡ false → bitOf (targetOf g) wires ≡ 0) ⌝ }
 {
     (wires >> (logic::wide(g) / 32)) % 2 != 0
-}
-
-// 1 for true, 0 for false.
-fn one(b: bool) -> usize
-    ensures { λ r. ⌜ r ≡ bit b ⌝ }
-    ensures { λ r. ⌜ r < 2 ⌝ }
-{
-    if b { 1 } else { 0 }
 }
 
 // Whether a state from which at most `left` gates may still come is in the set, where it has to be.

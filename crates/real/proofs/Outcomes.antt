@@ -11,7 +11,7 @@ use Rattle.logic.specs.Rules.{both, pick}
 use Rattle.logic.specs.Answers.{Answer, refused, answered}
 use Rattle.logic.proofs.Chain.{both-left}
 use Rattle.layouts.specs.Layouts.{plain}
-use Rattle.fields.specs.Circuits.{circuitBytes}
+use Rattle.circuit_fields.specs.Circuits.{circuitBytes}
 use Rattle.revlib.specs.Grammar.{Description, ancillaCount, dataCount, heading, headingOk, gateByte, recordOf}
 use Rattle.revlib.specs.Reading.{starts, linesAt, namesAt, constantsIn, headingHere, described, restOf, parse, outcomeOf, readOf, sizeOf, written}
 use Rattle.revlib.proofs.Exact.{name-count}

@@ -7,7 +7,7 @@ use Prim.Native.Nat.{ℕ, _≤_, _<_}
 use lib.ListN.{length, take}
 use Rattle.logic.specs.Answers.{Answer, refused, answered}
 use Rattle.layouts.specs.Layouts.{plain}
-use Rattle.fields.specs.Circuits.{circuitBytes}
+use Rattle.circuit_fields.specs.Circuits.{circuitBytes}
 use Rattle.revlib.specs.Grammar.{bytes, gateByte}
 use Rattle.real.specs.declared.Body.{Body}
 use Rattle.real.specs.declared.Circuit.{Circuit}

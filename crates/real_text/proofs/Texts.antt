@@ -11,7 +11,7 @@ use Rattle.gate.specs.Gates.{lawful}
 use Rattle.gate.proofs.Tables.{all-widen}
 use Rattle.fields.specs.Jobs.{dataWires, ancillas, wires}
 use Rattle.circuit_rules.specs.CircuitRules.{circuitCode}
-use Rattle.fields.specs.Circuits.{gates}
+use Rattle.circuit_fields.specs.Circuits.{gates}
 use Rattle.circuit_rules.proofs.Sound.{circuit-wires-within}
 use Rattle.pieces.specs.Text.{inFront}
 use Rattle.pieces.specs.Writing.{Wrote}

@@ -19,10 +19,10 @@ fn text_code(circuit: &[u8]) -> u8
     ensures { λ r. ⌜ r ≡ textCode (now (circuit .entry)) ⌝ }
 {
     let plain = layouts::plain(fields::data_wires(circuit));
-    let laid = logic::rule(fields::layout_of(circuit) == plain, 15, 0);
+    let laid = logic::rule(circuit_fields::layout_of(circuit) == plain, 15, 0);
     logic::and_then(
         circuit_rules::circuit_code(circuit),
-        logic::rule(!fields::marked(circuit), 8, laid),
+        logic::rule(!circuit_fields::marked(circuit), 8, laid),
     )
 }
 
@@ -33,7 +33,7 @@ fn text_size(circuit: &[u8]) -> usize
 {
     let n = fields::data_wires(circuit);
     let m = fields::ancillas(circuit);
-    rendering::heading_size(n, m) + rendering::body_size(fields::gate_list(circuit))
+    heading_lines::heading_size(n, m) + rendering::body_size(circuit_fields::gate_list(circuit))
 }
 
 // Writes the text of a circuit that has one at the start of a buffer that holds it.
@@ -44,8 +44,8 @@ fn put_real(circuit: &[u8], out: &mut [u8]) -> usize
 {
     let n = fields::data_wires(circuit);
     let m = fields::ancillas(circuit);
-    let i = rendering::put_heading(out, n, m);
-    rendering::put_body(out, i, fields::gate_list(circuit))
+    let i = heading_lines::put_heading(out, n, m);
+    rendering::put_body(out, i, circuit_fields::gate_list(circuit))
 }
 
 // Writes the `.real` text of an unmarked circuit record with plain layout to `out`.

@@ -1,4 +1,4 @@
-// The parts of a `.real` text, measured and written into a lent buffer.
+// The gates of a `.real` text, measured and written into a lent buffer; `heading_lines` has the lines above them.
 use gate::Kind;
 ghost use mathlib.Core.Path.{_≡_};
 ghost use mathlib.Core.Bool.{true};
@@ -7,11 +7,9 @@ ghost use Prim.Native.Nat.{_+_, _≤_, _<_};
 ghost use lib.ListN.{length};
 ghost use Rattle.logic.specs.Lists.{allOf};
 ghost use Rattle.gate.specs.Gates.{lawful};
-ghost use Rattle.layouts.specs.Layouts.{Width};
 ghost use Rattle.pieces.specs.Writing.{Wrote};
 ghost use Rattle.revlib.specs.Grammar.{gateLine, body};
 ghost use Rattle.revlib.specs.Writing.{letter, lineFor};
-ghost use Rattle.rendering.specs.Parts.{headingFor};
 
 fn letter(w: usize) -> u8
     requires { ⌜ w < 5 ⌝ }
@@ -90,66 +88,4 @@ pub fn put_body(out: &mut [u8], i: usize, gates: &[u8]) -> usize
         k += 1;
     }
     pieces::put_text(out, at, b".end\n")
-}
-
-// The length of the heading of n data wires and m ancillas.
-pub fn heading_size(n: usize, m: usize) -> usize
-    requires { ⌜ Width n × (m ≤ 1) ⌝ }
-    ensures { λ r. ⌜ r ≡ length (headingFor n m) ⌝ }
-    ensures { λ r. ⌜ r ≤ 80 ⌝ }
-{
-    if m == 0 { 42 + 2 * n } else { 57 + 3 * n }
-}
-
-// Writes the heading of three data wires and m ancillas at the start.
-fn put_three(out: &mut [u8], m: usize) -> usize
-    requires { ⌜ (m ≤ 1) × (length (headingFor 3 m) ≤ length (now out)) ⌝ }
-    ensures { λ r. ⌜ Wrote (now (out .entry)) 0 (headingFor 3 m) (now (out .exit)) r ⌝ }
-{
-    if m == 0 {
-        pieces::put_text(
-            out,
-            0,
-            b".version 2.0\n.numvars 3\n.variables a b c\n.begin\n",
-        )
-    } else {
-        pieces::put_text(
-            out,
-            0,
-            b".version 2.0\n.numvars 4\n.variables a b c d\n.constants ---0\n.begin\n",
-        )
-    }
-}
-
-// The same for four data wires.
-fn put_four(out: &mut [u8], m: usize) -> usize
-    requires { ⌜ (m ≤ 1) × (length (headingFor 4 m) ≤ length (now out)) ⌝ }
-    ensures { λ r. ⌜ Wrote (now (out .entry)) 0 (headingFor 4 m) (now (out .exit)) r ⌝ }
-{
-    if m == 0 {
-        pieces::put_text(
-            out,
-            0,
-            b".version 2.0\n.numvars 4\n.variables a b c d\n.begin\n",
-        )
-    } else {
-        pieces::put_text(
-            out,
-            0,
-            b".version 2.0\n.numvars 5\n.variables a b c d e\n.constants ----0\n.begin\n",
-        )
-    }
-}
-
-// Writes the heading of n data wires and m ancillas at the start.
-pub fn put_heading(out: &mut [u8], n: usize, m: usize) -> usize
-    requires { ⌜ Width n × (m ≤ 1) ⌝ }
-    requires { ⌜ length (headingFor n m) ≤ length (now out) ⌝ }
-    ensures { λ r. ⌜ Wrote (now (out .entry)) 0 (headingFor n m) (now (out .exit)) r ⌝ }
-{
-    if n == 3 {
-        put_three(out, m)
-    } else {
-        put_four(out, m)
-    }
 }

@@ -20,7 +20,7 @@ use Rattle.gate.proofs.Widen.{lawful-lt}
 use Rattle.layouts.specs.Layouts.{Width, plain}
 use Rattle.fields.specs.Jobs.{dataWires, ancillas, wires}
 use Rattle.circuit_rules.specs.CircuitRules.{circuitCode}
-use Rattle.fields.specs.Circuits.{marked, layoutOf, gates, circuitBytes}
+use Rattle.circuit_fields.specs.Circuits.{marked, layoutOf, gates, circuitBytes}
 use Rattle.circuit_rules.proofs.Sound.{sound-circuit, circuit-wires-within}
 use Rattle.circuit_rules.proofs.Written.{rebuilt}
 use Rattle.revlib.specs.Grammar.{bytes, Constants, Description, ancillaCount, spaced, numvarsLine, variablesLine, constantsLine, constantsWord, heading, gateLine, body, render, isIn, different, lowerCase, dataCount, headingOk, declared, lineOk, wellFormed, wireOf, gateByte, recordOf}

@@ -7,7 +7,7 @@ use Rattle.logic.specs.Lists.{allOf}
 use Rattle.logic.specs.Answers.{refused, answered}
 use Rattle.gate.specs.Gates.{gateOf}
 use Rattle.fields.specs.Jobs.{dataWires, ancillas, wires}
-use Rattle.fields.specs.Circuits.{circuitBytes}
+use Rattle.circuit_fields.specs.Circuits.{circuitBytes}
 use Rattle.revlib.specs.Grammar.{bytes, spaced, numvarsLine, variablesLine, constantsLine, constantsWord, heading, gateLine, body, render}
 use Rattle.revlib.specs.Grammar.{isIn, different, lowerCase, dataCount, headingOk, lineOk, wireOf, gateByte, recordOf}
 use Rattle.revlib.specs.Reading.{starts, announced, lineAt, lineHere, endHere, linesAt, namesAt, constantsAt, constantsIn, headingHere, restOf, parse, readOf}

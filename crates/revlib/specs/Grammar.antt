@@ -8,7 +8,7 @@ pub use Rattle.logic.specs.Words.{bytes}
 use Rattle.logic.specs.Rules.{both, either, pick}
 use Rattle.logic.specs.Lists.{allOf}
 use Rattle.layouts.specs.Layouts.{plain}
-use Rattle.fields.specs.Circuits.{circuitBytes}
+use Rattle.circuit_fields.specs.Circuits.{circuitBytes}
 
 -- the `.constants` line: left out, with a dash for each wire, or with a closing 0 for an ancilla
 pub data Constants : Type 0 where

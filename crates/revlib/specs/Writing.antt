@@ -12,7 +12,7 @@ use Rattle.gate.specs.Gates.{gateOf}
 use Rattle.layouts.specs.Layouts.{plain}
 use Rattle.fields.specs.Jobs.{dataWires, ancillas, wires}
 use Rattle.circuit_rules.specs.CircuitRules.{circuitCode}
-use Rattle.fields.specs.Circuits.{marked, layoutOf, gates}
+use Rattle.circuit_fields.specs.Circuits.{marked, layoutOf, gates}
 use Rattle.revlib.specs.Grammar.{Constants, unsaid, oneAncilla, Description, render}
 
 -- a, b, c, .. in wire order

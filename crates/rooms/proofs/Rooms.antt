@@ -17,7 +17,8 @@ use Rattle.logic.proofs.Prefixes.{cut-length, any-length, told-by}
 use Rattle.record.specs.JobRules.{jobCode}
 use Rattle.record.proofs.Long.{long-job}
 use Rattle.circuit_rules.proofs.Sound.{long-circuit}
-use Rattle.verify.specs.Calls.{measuresFor, circuitCodeFor, measureCode, verifyRest, verifyCode, verifyOf}
+use Rattle.judging.specs.Judging.{verifyRest}
+use Rattle.verify.specs.Calls.{measuresFor, circuitCodeFor, measureCode, verifyCode, verifyOf}
 use Rattle.outcomes.specs.Outcomes.{Found, searchOver, searchCode, searchOf}
 use Rattle.libraries.specs.Library.{librarySizeOk, libraryCode}
 use Rattle.libraries.specs.Calls.{jobWithCode, circuitWithCode, measuresIn, restWithCode, verifyWithCode, verifyWith, searchWithCode, searchWith}

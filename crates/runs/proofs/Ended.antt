@@ -13,7 +13,7 @@ use Rattle.running.specs.Run.{forwards, backwards}
 use Rattle.running.proofs.Reversal.{stays, stays-back}
 use Rattle.fields.specs.Jobs.{wires}
 use Rattle.circuit_rules.specs.CircuitRules.{circuitCode}
-use Rattle.fields.specs.Circuits.{controlsOf, gates}
+use Rattle.circuit_fields.specs.Circuits.{controlsOf, gates}
 use Rattle.circuit_rules.proofs.Sound.{sound-circuit, circuit-wires-within}
 use Rattle.runs.specs.Runs.{runCode, runOf}
 use native.Mathlib.Omega.{arith}

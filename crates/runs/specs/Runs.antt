@@ -5,7 +5,7 @@ use Prim.Native.Nat.{ℕ}
 use Rattle.logic.specs.Rules.{pick}
 use Rattle.logic.specs.Answers.{Answer, refused, answered, answerOf}
 use Rattle.running.specs.Run.{forwards, backwards}
-use Rattle.fields.specs.Circuits.{gates}
+use Rattle.circuit_fields.specs.Circuits.{gates}
 unfoldable pub use Rattle.codes.specs.Codes.{runCode}
 use Rattle.runs.specs.declared.Ran.{Ran}
 use Rattle.runs.specs.declared.Ran.the-variants.{Value}

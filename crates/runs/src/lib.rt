@@ -24,11 +24,11 @@ fn run_list(forth: bool, list: &[u8], value: usize) -> usize
 fn run(forth: bool, c: &[u8], value: u8) -> Ran
     ensures { λ r. ⌜ ranAnswer r ≡ runOf forth (now (c .entry)) value ⌝ }
 {
-    let code = codes::run_code(c, value);
+    let code = single_codes::run_code(c, value);
     if code != 0 {
         return Ran::Refused(code);
     }
-    Ran::Value(run_list(forth, fields::gate_list(c), logic::wide(value)) as u8)
+    Ran::Value(run_list(forth, circuit_fields::gate_list(c), logic::wide(value)) as u8)
 }
 
 // Runs a circuit from its first gate to its last.

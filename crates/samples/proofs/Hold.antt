@@ -15,12 +15,14 @@ use Rattle.table.specs.Rows.{rowOk, bitAgrees, rowAgrees, agreesFrom, clean, re
 use Rattle.fields.specs.Jobs.{longer, dataWires, ancillas, wires, freeLayout, gateLimit, costLimit, depthLimit, prices, durations}
 use Rattle.record.specs.JobRules.{jobLengthOk, sizeOk, headOk, limitOk, durationsOk, rowsOk, jobCode}
 use Rattle.circuit_rules.specs.CircuitRules.{circuitLengthOk, shapeOk, circuitCode}
-use Rattle.fields.specs.Circuits.{marked, layoutOf, countOf, circuitBytes}
+use Rattle.circuit_fields.specs.Circuits.{marked, layoutOf, countOf, circuitBytes}
 use Rattle.measures.specs.Measures.{measuresOf}
-use Rattle.verify.specs.Calls.{sameWires, markFits, circuitCodeFor, measureCode, measureOf, verifyRest, verifyCode, verifyOf}
+use Rattle.judging.specs.Judging.{verifyRest}
+use Rattle.verify.specs.Calls.{sameWires, markFits, circuitCodeFor, measureCode, measureOf, verifyCode, verifyOf}
 use Rattle.limits.specs.Limits.{limitsCode}
 use Rattle.runs.specs.Runs.{runCode, runOf}
-use Rattle.parity.specs.Parity.{full, distinct, permutes, smaller, inversions, tableParity, parityOf}
+use Rattle.permuting.specs.Values.{full, distinct, permutes, smaller, inversions}
+use Rattle.parity.specs.Parity.{tableParity, parityOf}
 use Rattle.choice.specs.Choices.{lexLess, before, keep, attempt, improve, under}
 use Rattle.problem.specs.Problems.{choiceOf, here, within, firstGood}
 use Rattle.outcomes.specs.Outcomes.{problemOver, recordOf, searchOver, searchCode, searchOf}

@@ -18,7 +18,7 @@ pub fn task_of(job: &[u8]) -> Task
     ensures { λ r. ⌜ r ≡ taskOf (now (job .entry)) ⌝ }
 {
     Task {
-        wanted: columns::wanted_of(fields::table(job)),
+        wanted: table_columns::wanted_of(fields::table(job)),
         outputs: fields::data_wires(job),
         free: fields::free_layout(job),
         controls: fields::most_controls(job),
@@ -43,7 +43,7 @@ pub fn solve_among(
     ensures { λ r. ⌜ r .len ≤ 12 ⌝ }
 {
     if asking::always_none(job) {
-        return choice::nothing();
+        return holding::nothing();
     }
     solver::solve(
         &gates[..count],
@@ -72,7 +72,7 @@ pub fn search(job: &[u8], answer: &mut [u8]) -> Searched
     ensures { λ r. ⌜ sizeIn r ≤ 15 ⌝ }
     ensures { λ _. ⌜ now (answer .exit) ≡ written (searchOf (now (job .entry)) (length (now (answer .entry)))) (now (answer .entry)) ⌝ }
 {
-    let code = codes::search_code(job, answer.len());
+    let code = single_codes::search_code(job, answer.len());
     if code != 0 {
         return Searched::Refused(code);
     }

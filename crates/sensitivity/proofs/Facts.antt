@@ -19,7 +19,7 @@ use Rattle.logic.proofs.Counts.{all-below, some-at}
 use Rattle.circuit.specs.Measure.{cost}
 use Rattle.record.specs.JobRules.{jobCode}
 use Rattle.fields.specs.Jobs.{longer, dataWires, ancillas, costLimit}
-use Rattle.fields.specs.Circuits.{gates}
+use Rattle.circuit_fields.specs.Circuits.{gates}
 use Rattle.record.proofs.Kept.{sound-job}
 use Rattle.circuit_rules.proofs.Written as Written
 use Rattle.measures.specs.declared.Measures.{Measures}
@@ -30,7 +30,7 @@ use Rattle.outcomes.proofs.Facts as Search
 use Rattle.alike.specs.Alike.{priceCount, pricePlace, sameBut, alikeBut, onePrice, comparable, compareCode, costDifference}
 use Rattle.sensitivity.specs.Calls.{changeBetween, priceChange}
 use Rattle.repriced.specs.Demand.{ofKind, kindCount, Roomy, Bytes}
-use Rattle.alike.proofs.Whole.{no-less, no-more, no-change}
+use Rattle.signed_costs.proofs.Whole.{no-less, no-more, no-change}
 use Rattle.repriced.proofs.Problems.{turned, solves-too, winners-apart}
 use Rattle.repriced.proofs.Jobs.{Changed, changed-is, other-way, alike, raised, roomy}
 

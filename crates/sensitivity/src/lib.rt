@@ -26,7 +26,7 @@ fn change_between(old: Searched, new: Searched) -> Change
         Searched::Refused(code) => Change::Refused(code),
         Searched::Found(_, before) => match new {
             Searched::Refused(code) => Change::Refused(code),
-            Searched::Found(_, after) => Change::By(alike::cost_difference(
+            Searched::Found(_, after) => Change::By(signed_costs::cost_difference(
                 before.cost,
                 after.cost,
             )),

@@ -20,7 +20,7 @@ pub fn needless(table: &[u16], s: Node, g: u8) -> bool
     ensures { λ r. ⌜ ((P : Problem) (task : Task) → Asks P task → At P s → List·Memᴰ g (P .gates) → now (table .entry) ≡ tableOf (task .controls) (task .wanted) (s .columns) → r ≡ needless (listOf s) g) ⌝ }
 {
     let marks = s.marks;
-    logic::either(products::idle(table, g), masks::marked(marks, g))
+    logic::either(product_steps::idle(table, g), marks::marked(marks, g))
 }
 
 // Whether the list with one gate more ends within the limit on depth.
@@ -33,6 +33,6 @@ pub fn in_time(task: Task, s: Node, entry: Entry) -> bool
         return true;
     }
     let times = s.times;
-    let later = circuit::hold(gate::decode(entry.gate), entry.duration, times);
-    circuit::latest(later) as usize <= task.depth_limit
+    let later = timing::hold(gate::decode(entry.gate), entry.duration, times);
+    timing::latest(later) as usize <= task.depth_limit
 }

@@ -35,7 +35,7 @@ pub fn vacant() -> Entry
     ensures { λ r. ⌜ viewEntry r ≡ empty ⌝ }
 {
     let at = candidates::first();
-    let best = choice::nothing();
+    let best = holding::nothing();
     Entry {
         status: 0,
         size: 0,
@@ -92,7 +92,7 @@ pub fn fresh(job: &[u8]) -> Entry
     let mut bytes = [0u8; 30];
     let size = bytes::copy(job, &mut bytes);
     let at = candidates::first();
-    let best = choice::nothing();
+    let best = holding::nothing();
     Entry {
         status: 1,
         size,
@@ -143,8 +143,8 @@ fn place_after(job: &[u8], at: Place) -> Next
 fn does_for(job: &[u8], list: &[u8], layout: u8, m: Measures) -> bool
     ensures { λ r. ⌜ r ≡ doesFor (now (job .entry)) (now (list .entry)) layout m ⌝ }
 {
-    let agreed = table::agrees(layout, list, fields::table(job));
-    let clean = table::clean(fields::data_wires(job), list);
+    let agreed = agreement::agrees(layout, list, fields::table(job));
+    let clean = cleaning::clean(fields::data_wires(job), list);
     let cheap = m.cost as usize <= fields::cost_limit(job);
     let early = m.depth as usize <= fields::depth_limit(job);
     logic::both(logic::both(agreed, clean), logic::both(cheap, early))
@@ -168,7 +168,7 @@ fn consider(job: &[u8], path: [u8; 12], len: usize, layout: u8, best: Best) -> B
         len,
         path,
     };
-    choice::offer(best, mine)
+    holding::offer(best, mine)
 }
 
 // What is held once the candidate at a place was tried.

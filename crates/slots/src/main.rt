@@ -1,4 +1,198 @@
 // Works through the jobs of a file in eight slots: `slots FILE`. Each job's line is printed as it is collected, with the turn it finished in.
+use outcomes::Searched;
+use slot_states::Posting;
+use slot_states::Service;
+use slot_states::Slots;
+ghost use mathlib.Core.Path.{_≡_};
+ghost use Prim.Native.Nat.{_≤_, _<_};
+ghost use Rattle.cutting.specs.Records.{countOf};
+
 fn main() {
-    slot_runs::run();
+    if os::arg_count() != 2 {
+        slot_lines::say(b"usage: slots FILE\n");
+        return;
+    }
+    let mut name = io::buffer();
+    let n = os::arg(1, &mut name);
+    run_file(&name[..n]);
+}
+
+// Works through the jobs of a file, as many bytes as a batch can have and one more.
+fn run_file(name: &[u8]) {
+    let file = os::open_read(name);
+    if file < 0 {
+        slot_lines::say_unreadable(name);
+        return;
+    }
+    let mut jobs = io::buffer();
+    let n = io::read_full(file, &mut jobs);
+    libc::close(file);
+    run_jobs(&jobs[..n]);
+}
+
+// Jobs on their way through the slots: the next job of the file, the slot to post it to (8 for none), which job each slot has, and the turns
+// so far.
+pub struct Work {
+    pub slots: Slots,
+    pub next: usize,
+    pub free: usize,
+    pub owners: [u8; 8],
+    pub turns: u64,
+    pub done: bool,
+}
+
+// The turns, one more; there are fewer than 2^64 in any run.
+fn one_more(n: u64) -> u64 {
+    if n < 18446744073709551615 { n + 1 } else { n }
+}
+
+// Says which job was answered, counted from 1, and after how many turns.
+fn say_heading(job: usize, turns: u64) {
+    slot_lines::say(b"job ");
+    slot_lines::say_number(job as u64);
+    slot_lines::say(b" turn ");
+    slot_lines::say_number(turns);
+    slot_lines::say(b": ");
+}
+
+// A job that is refused is answered at once; one whose slot is taken waits for another slot.
+fn after_refusal(w: Work, code: u8) -> Work
+    requires { ⌜ (w .next < 64) × (w .free < 8) ⌝ }
+{
+    let mut next = w;
+    if code == 36 {
+        next.free = w.free + 1;
+        return next;
+    }
+    say_heading(w.next + 1, w.turns);
+    slot_lines::say_refused(code);
+    next.next = w.next + 1;
+    next
+}
+
+// Posts the next job.
+fn post_next(jobs: &[u8], w: Work) -> Work
+    requires { ⌜ (w .next < countOf (now jobs)) × ((w .next < 64) × (w .free < 8)) ⌝ }
+{
+    let which = w.free;
+    let number = w.next;
+    let place = cutting::record_at(jobs, number);
+    let start = place.start;
+    let end = place.end;
+    let posted = scheduler::post(w.slots, which, &jobs[start..end]);
+    let answer = posted.answer;
+    match answer {
+        Posting::Refused(code) => after_refusal(w, code),
+        Posting::Accepted => {
+            let slots = posted.slots;
+            let mut owners = w.owners;
+            owners[which] = number as u8;
+            let turns = w.turns;
+            Work {
+                slots,
+                next: number + 1,
+                free: which + 1,
+                owners,
+                turns,
+                done: false,
+            }
+        }
+    }
+}
+
+// Collects the answer of the slot that was served, if it is finished; the slot is then free.
+fn collect_served(w: Work, which: usize) -> Work {
+    let mut answer = [0u8; 15];
+    let collected = scheduler::collect(w.slots, which, &mut answer);
+    let told = collected.answer;
+    if is_unfinished(told) {
+        return w;
+    }
+    let owners = w.owners;
+    say_heading(owner_at(owners, which), w.turns);
+    slot_lines::say_answer(told, &answer);
+    let slots = collected.slots;
+    Work {
+        slots,
+        next: w.next,
+        free: which,
+        owners,
+        turns: w.turns,
+        done: false,
+    }
+}
+
+fn is_unfinished(told: Searched) -> bool {
+    match told {
+        Searched::Refused(code) => code == 37,
+        Searched::Found(_, _) => false,
+    }
+}
+
+// The job of a slot, counted from 1.
+fn owner_at(owners: [u8; 8], which: usize) -> usize {
+    if which < 8 { counted(owners[which]) } else { 0 }
+}
+
+fn counted(number: u8) -> usize {
+    logic::wide(number) + 1
+}
+
+// One turn; where no slot is working, the work is done.
+fn take_turn(w: Work) -> Work {
+    let turned = scheduler::turn(w.slots);
+    let slots = turned.slots;
+    let answer = turned.answer;
+    let mut next = w;
+    next.slots = slots;
+    match answer {
+        Service::Idle => {
+            next.done = true;
+            next
+        }
+        Service::Slot(i) => {
+            next.turns = one_more(w.turns);
+            collect_served(next, i)
+        }
+    }
+}
+
+// Posts a job where there is one and a slot for it, and else takes a turn.
+fn step(jobs: &[u8], count: usize, w: Work) -> Work
+    requires { ⌜ (count ≡ countOf (now jobs)) × (count ≤ 64) ⌝ }
+{
+    if 8 <= w.free {
+        return take_turn(w);
+    }
+    if count <= w.next {
+        return take_turn(w);
+    }
+    post_next(jobs, w)
+}
+
+// Works through jobs back to back, and says the line of each as it is collected.
+fn run_jobs(jobs: &[u8]) {
+    let cut = cutting::cut_off(jobs);
+    if cut.end != jobs.len() {
+        slot_lines::say_refused(26);
+        return;
+    }
+    let slots = slot_states::start();
+    let mut work = Work {
+        slots,
+        next: 0,
+        free: 0,
+        owners: [0u8; 8],
+        turns: 0,
+        done: false,
+    };
+    let mut steps: u64 = 0;
+    while steps < 18446744073709551615 {
+        if work.done {
+            return;
+        }
+        let next = step(jobs, cut.count, work);
+        work = next;
+        steps += 1;
+    }
 }

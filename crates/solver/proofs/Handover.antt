@@ -1,27 +1,17 @@
 -- One search after the other, with one filter or another: what each leaves to the next.
 use mathlib.Core.Path.{_≡_, refl, sym, _∙_, subst}
 use mathlib.Core.Bool.{true, false, true≢false}
-use mathlib.Core.List.{List}
 use mathlib.Core.Option.{none}
 use Prim.Native.Nat.{ℕ, _+_, _-_, _≤_}
 use native.Mathlib.Omega.{arith}
 use Rattle.choice.specs.declared.Best.{Best}
 use Rattle.choice.specs.Inner.{view}
 use Rattle.problem.specs.Problems.{Problem, firstGood}
-use Rattle.problem.specs.Inner.{Past, Dearer}
+use Rattle.problem.specs.Inner.{Past}
 use Rattle.problem.proofs.Limits.{never}
-use Rattle.hashes.specs.declared.Reach.{Reach}
-use Rattle.filters.specs.Sieve.{Sieve}
-use Rattle.states.specs.declared.Task.{Task}
 use Rattle.solver.specs.declared.Outcome.{Outcome}
-use Rattle.states.specs.States.{Slices, Supplied}
 use Rattle.deepening.specs.Deepening.{Deepened}
 use Rattle.solver.specs.States.{Settled}
-
-pub supplied : (gates prices durations : List ℕ) (task : Task) (bits : List ℕ) (reach : Reach) → Slices gates prices durations
-    → Sieve bits reach gates (task .controls) (task .wanted) (task .outputs) (task .free) → Supplied gates prices durations task bits reach
-supplied gates prices durations task bits reach s f =
-    record { priced-all = s .priced-all; timed-all = s .timed-all; known = s .known; sieve = f }
 
 module _ (P : Problem) where
   -- what was found stays the first, however many gates may be looked at
@@ -47,7 +37,3 @@ module _ (P : Problem) where
 
   pub none-good : (o : Outcome) → o .done ≡ false → Settled P (P .mostGates) o → firstGood P ≡ none
   none-good o f s = never P (s .failed f)
-
-  -- nothing costs less than 0
-  pub none-below : Dearer P 0
-  none-below = record { cost-least = λ a m h. omega arith }

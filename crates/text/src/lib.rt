@@ -36,6 +36,6 @@ pub fn found_line(m: Measures, bytes: &[u8], out: &mut [u8]) -> usize
     let b = pieces::put_spaced(out, a, m.gates as usize);
     let c = pieces::put_spaced(out, b, m.cost as usize);
     let d = pieces::put_spaced(out, c, m.depth as usize);
-    let e = pieces::put_hex(out, d, bytes);
+    let e = hex::put_hex(out, d, bytes);
     pieces::put(out, e, b'\n')
 }

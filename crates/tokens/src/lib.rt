@@ -29,11 +29,11 @@ pub enum Line {
 fn opener_at(s: &[u8], at: usize) -> Opener
     ensures { λ r. ⌜ r ≡ openerOf (now (s .entry)) at ⌝ }
 {
-    let text = words::rest(s, at);
-    if words::end_here(text) {
+    let text = keywords::rest(s, at);
+    if keywords::end_here(text) {
         return Opener::End;
     }
-    let count = words::announced(text);
+    let count = keywords::announced(text);
     if count == 0 {
         Opener::Other
     } else {
@@ -70,7 +70,7 @@ fn gate_line(s: &[u8], count: usize, letters: &[u8]) -> Line
     let all = [logic::at(s, 3), logic::at(s, 5), logic::at(s, 7)];
     let line = &all[..count];
     let ok = words::line_ok(letters, line);
-    if logic::both(ok, words::line_starts(s, line)) {
+    if logic::both(ok, keywords::line_starts(s, line)) {
         Line::Gate(words::gate_byte(letters, line), 3 + 2 * count)
     } else {
         Line::Other
@@ -84,7 +84,7 @@ pub fn line_at(s: &[u8], at: usize, letters: &[u8]) -> Line
 {
     match first_word(s, at) {
         Opener::End => Line::End,
-        Opener::Gate(count) => gate_line(words::rest(s, at), count, letters),
+        Opener::Gate(count) => gate_line(keywords::rest(s, at), count, letters),
         Opener::Other => Line::Other,
     }
 }

@@ -12,7 +12,7 @@ ghost use Rattle.rooms.specs.Files.{isText, given, verdict, judged, verifyFile,
 fn is_text(file: &[u8]) -> bool
     ensures { λ r. ⌜ r ≡ isText (now (file .entry)) ⌝ }
 {
-    words::starts(file, b".version")
+    keywords::starts(file, b".version")
 }
 
 // Verifies a circuit record, with the library where one is named.
@@ -55,5 +55,5 @@ pub fn verify_text(job: &[u8], named: bool, library: &[u8], file: &[u8], out: &m
     ensures { λ r. ⌜ r ≤ 128 ⌝ }
     ensures { λ _. ⌜ now (out .exit) ≡ inFront (verifyText (now (job .entry)) (given named (now (library .entry))) (now (file .entry))) (now (out .entry)) ⌝ }
 {
-    report::report(verify_file(job, named, library, file), out)
+    passes::report(verify_file(job, named, library, file), out)
 }

@@ -21,7 +21,7 @@ use Rattle.circuit.proofs.Gatebound.{roundedUp, gates-by-depth, depth-least}
 use Rattle.record.specs.JobRules.{jobCode}
 use Rattle.fields.specs.Jobs.{longer, mostControls, dataWires, ancillas, wires, durationOf}
 use Rattle.circuit_rules.specs.CircuitRules.{circuitCode}
-use Rattle.fields.specs.Circuits.{marked, controlsOf, gates}
+use Rattle.circuit_fields.specs.Circuits.{marked, controlsOf, gates}
 use Rattle.record.proofs.Kept.{sound-job, wires-within}
 use Rattle.circuit_rules.proofs.Sound.{sound-circuit}
 use Rattle.measures.specs.declared.Measures.{Measures}

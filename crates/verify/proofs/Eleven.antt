@@ -12,12 +12,13 @@ use Rattle.table.specs.Rows.{agrees, clean}
 use Rattle.record.specs.JobRules.{jobCode}
 use Rattle.fields.specs.Jobs.{dataWires, freeLayout, rows}
 use Rattle.circuit_rules.specs.CircuitRules.{circuitCode}
-use Rattle.fields.specs.Circuits.{layoutOf, gates}
+use Rattle.circuit_fields.specs.Circuits.{layoutOf, gates}
 use Rattle.circuit_rules.proofs.Eleven.{circuit-never}
 use Rattle.record.proofs.Never.{job-never}
 use Rattle.measures.specs.declared.Measures.{Measures}
 use Rattle.verify.specs.Calls.{measuresFor, sameWires, markFits, circuitCodeFor, measureCode, measureOf}
-use Rattle.verify.specs.Calls.{verifyRest, verifyCode, verifyOf}
+use Rattle.judging.specs.Judging.{verifyRest}
+use Rattle.verify.specs.Calls.{verifyCode, verifyOf}
 use Rattle.limits.proofs.Within.{limits-never}
 
 module _ (job c : List ℕ) where

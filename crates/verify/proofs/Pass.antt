@@ -17,10 +17,11 @@ use Rattle.table.specs.Rows.{agrees, clean}
 use Rattle.table.proofs.Rows.{realizes-agrees, realizes-clean, agrees-realizes}
 use Rattle.record.specs.JobRules.{jobCode}
 use Rattle.fields.specs.Jobs.{dataWires, ancillas, freeLayout, gateLimit, costLimit, depthLimit, priceOf, durationOf, rows}
-use Rattle.fields.specs.Circuits.{layoutOf, gates}
+use Rattle.circuit_fields.specs.Circuits.{layoutOf, gates}
 use Rattle.measures.specs.declared.Measures.{Measures}
 use Rattle.measures.specs.Measures.{measuresOf}
-use Rattle.verify.specs.Calls.{measuresFor, sameWires, circuitCodeFor, measureCode, verifyRest, verifyCode, verifyOf}
+use Rattle.judging.specs.Judging.{verifyRest}
+use Rattle.verify.specs.Calls.{measuresFor, sameWires, circuitCodeFor, measureCode, verifyCode, verifyOf}
 use Rattle.limits.specs.Limits.{limitsCode}
 use Rattle.verify.specs.Demand.{PassesAt, Passes}
 use Rattle.verify.proofs.Codes.{circuit-parts}

@@ -13,7 +13,7 @@ use Rattle.circuit.proofs.Times.{length-hold}
 use Rattle.circuit.proofs.Gatebound.{quiet-ready}
 use Rattle.fields.specs.Jobs.{wires, priceOf, durationOf}
 use Rattle.circuit_rules.specs.CircuitRules.{circuitCode}
-use Rattle.fields.specs.Circuits.{controlsOf, gates}
+use Rattle.circuit_fields.specs.Circuits.{controlsOf, gates}
 use Rattle.circuit_rules.proofs.Sound.{sound-circuit, circuit-wires-within}
 use Rattle.measures.specs.declared.Measures.{Measures}
 use Rattle.measures.specs.Measures.{measuresOf, readyOf}

@@ -1,17 +1,14 @@
 -- What measuring and verifying (document 01: judging) answer.
 use mathlib.Core.List.{List}
 use Prim.Native.Nat.{ℕ}
-use Rattle.logic.specs.Rules.{rule, andThen}
+use Rattle.logic.specs.Rules.{andThen}
 use Rattle.logic.specs.Answers.{Answer, refused, answered, answerOf}
-use Rattle.running.specs.Run.{forwards}
-use Rattle.layouts.specs.Layouts.{allowed}
-use Rattle.table.specs.Rows.{agrees, clean}
-use Rattle.fields.specs.Jobs.{dataWires, freeLayout, priceOf, durationOf, rows}
-use Rattle.fields.specs.Circuits.{layoutOf, gates}
+use Rattle.fields.specs.Jobs.{priceOf, durationOf}
+use Rattle.circuit_fields.specs.Circuits.{gates}
 unfoldable pub use Rattle.codes.specs.Codes.{sameWires, markFits, circuitCodeFor, measureCode}
 use Rattle.measures.specs.declared.Measures.{Measures}
 use Rattle.measures.specs.Measures.{measuresOf}
-use Rattle.limits.specs.Limits.{limitsCode}
+use Rattle.judging.specs.Judging.{verifyRest}
 use Rattle.verify.specs.declared.Measured.{Measured}
 use Rattle.verify.specs.declared.Measured.the-variants.{Within}
 
@@ -26,15 +23,6 @@ measuresFor job c = measuresOf (priceOf job) (durationOf job) (gates c)
 
 unfoldable pub measureOf : List ℕ → List ℕ → Answer Measures
 measureOf job c = answerOf (measureCode job c) (measuresFor job c)
-
--- "Placing allowed? If not, 15. Table met? If not, 16." That keeps to the wanted bits. "24 in judging, ancilla not at 0, directly after
--- 16". Then the limits, for the circuit's measures
-unfoldable pub verifyRest : List ℕ → List ℕ → Measures → ℕ
-verifyRest job c m =
-    rule (allowed (dataWires job) (freeLayout job) (layoutOf c)) 15
-    (rule (agrees (layoutOf c) (forwards (gates c)) (rows job)) 16
-    (rule (clean (dataWires job) (forwards (gates c))) 24
-    (limitsCode job m)))
 
 -- "after the job's checks and then the circuit's": those of measuring, then the rest
 unfoldable pub verifyCode : List ℕ → List ℕ → ℕ

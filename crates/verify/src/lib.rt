@@ -4,10 +4,9 @@ pub use runs::Ran;
 pub use runs::run_backwards;
 pub use runs::run_forwards;
 ghost use mathlib.Core.Path.{_≡_};
-ghost use Rattle.record.specs.JobRules.{jobCode};
 ghost use Rattle.circuit_rules.specs.CircuitRules.{circuitCode};
 ghost use Rattle.verify.specs.Calls.{measuredAnswer, measuresFor, measureOf};
-ghost use Rattle.verify.specs.Calls.{verifyRest, verifyOf};
+ghost use Rattle.verify.specs.Calls.{verifyOf};
 
 // What measuring and verifying answer: the number of the first rule broken, or the circuit's measures.
 pub enum Measured {
@@ -21,7 +20,7 @@ fn measures_for(job: &[u8], c: &[u8]) -> Measures
     ensures { λ r. ⌜ r ≡ measuresFor (now (job .entry)) (now (c .entry)) ⌝ }
 {
     measures::measure_list(
-        fields::gate_list(c),
+        circuit_fields::gate_list(c),
         fields::prices(job),
         fields::durations(job),
     )
@@ -38,20 +37,6 @@ pub fn measure(job: &[u8], c: &[u8]) -> Measured
     Measured::Within(measures_for(job, c))
 }
 
-// The rules of verifying after those of measuring, for a circuit with these measures.
-pub fn verify_rest(job: &[u8], c: &[u8], m: Measures) -> u8
-    requires { ⌜ jobCode (now job) ≡ 0 ⌝ }
-    ensures { λ r. ⌜ r ≡ verifyRest (now (job .entry)) (now (c .entry)) m ⌝ }
-{
-    let p = fields::layout_of(c);
-    let agreed = table::agrees(p, fields::gate_list(c), fields::table(job));
-    let allowed = layouts::allowed(fields::data_wires(job), fields::free_layout(job), p);
-    let clean = table::clean(fields::data_wires(job), fields::gate_list(c));
-    let limits = limits::limits_code(job, m);
-    let met = logic::rule(agreed, 16, logic::rule(clean, 24, limits));
-    logic::rule(allowed, 15, met)
-}
-
 // Verifies a circuit for a job: a pass has its measures.
 pub fn verify(job: &[u8], c: &[u8]) -> Measured
     ensures { λ r. ⌜ measuredAnswer r ≡ verifyOf (now (job .entry)) (now (c .entry)) ⌝ }
@@ -61,7 +46,7 @@ pub fn verify(job: &[u8], c: &[u8]) -> Measured
         return Measured::Refused(code);
     }
     let m = measures_for(job, c);
-    let rest = verify_rest(job, c, m);
+    let rest = judging::verify_rest(job, c, m);
     if rest != 0 {
         return Measured::Refused(rest);
     }

@@ -53,8 +53,8 @@ fn dfs(
     if most == 0 {
         return b;
     }
-    let table = products::table_of(task.controls, wanted, columns);
-    let wires = reach::open_wires(bits, reach, columns, most - 1);
+    let table = product_tables::table_of(task.controls, wanted, columns);
+    let wires = openings::open_wires(bits, reach, columns, most - 1);
     let mut i = 0;
     while i < gates.len() {
         let g = gates[i];
@@ -94,7 +94,7 @@ pub fn root(needs: usize) -> Node
     ensures { λ r. ⌜ ((P : Problem) → Needs P [] needs → At P r) ⌝ }
 {
     Node {
-        columns: columns::start_columns(),
+        columns: table_columns::start_columns(),
         times: [0u16; 5],
         cost: 0,
         path: [0u8; 12],
@@ -130,7 +130,7 @@ pub fn run(
         least,
         root(least.needs),
         most,
-        choice::nothing(),
+        holding::nothing(),
         bits,
         reach,
         sums,

@@ -25,7 +25,7 @@ use Rattle.layouts.specs.Layouts.{Width, plain, layoutsFor}
 use Rattle.table.specs.Rows.{realizes}
 use Rattle.record.specs.JobRules.{jobCode}
 use Rattle.fields.specs.Jobs.{mostControls, dataWires, wires, freeLayout, gateLimit, costLimit, depthLimit, priceOf, durationOf, rows}
-use Rattle.fields.specs.Circuits.{gates, circuitBytes}
+use Rattle.circuit_fields.specs.Circuits.{gates, circuitBytes}
 use Rattle.record.proofs.Kept.{wires-within}
 use Rattle.measures.specs.declared.Measures.{Measures}
 use Rattle.measures.specs.Measures.{measuresOf}

@@ -21,7 +21,7 @@ use Rattle.layouts.specs.Layouts.{Width}
 use Rattle.table.specs.Rows.{careOf, valueOf, rowOk}
 use Rattle.fields.specs.Jobs.{longer, dataWires, ancillas, freeLayout, gateLimit, costLimit, depthLimit, prices, durations, rows}
 use Rattle.record.specs.JobRules.{jobLengthOk, sizeOk, headOk, limitOk, durationsOk, rowsOk, jobCode}
-use Rattle.parity.specs.Parity.{values, fullRow, full, distinct, permutes}
+use Rattle.permuting.specs.Values.{values, fullRow, full, distinct, permutes}
 use Rattle.odd_tables.proofs.Permutation.{permutation}
 use Rattle.inverse.specs.Inverse.{Permutation, valueAt}
 use Rattle.inverse.proofs.Tables.{fullOf}

@@ -12,7 +12,7 @@ use lib.Seq.{take-nil}
 use Rattle.logic.specs.Rules.{pick}
 use Rattle.logic.specs.Answers.{refused, answered}
 use Rattle.layouts.specs.Layouts.{Width}
-use Rattle.fields.specs.Circuits.{gates, circuitBytes}
+use Rattle.circuit_fields.specs.Circuits.{gates, circuitBytes}
 use Rattle.measures.specs.declared.Measures.{Measures}
 use Rattle.outcomes.specs.Outcomes.{recordOf, Found, searchOf}
 use Rattle.outcomes.proofs.Facts.{found-sound, found-is}

@@ -10,7 +10,7 @@ use Rattle.logic.specs.Answers.{Answer, refused, answered}
 use Rattle.circuit.specs.declared.Weights.{Weights}
 use Rattle.circuit.specs.Measure.{weightOf, cost}
 use Rattle.running.specs.Run.{forwards}
-use Rattle.fields.specs.Circuits.{gates}
+use Rattle.circuit_fields.specs.Circuits.{gates}
 use Rattle.outcomes.specs.Outcomes.{Found, searchOf}
 use Rattle.windows.specs.declared.Prices.{Prices}
 

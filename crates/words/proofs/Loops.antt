@@ -1,4 +1,4 @@
--- What the loops over a word, a list of letters and a line still owe when they have passed i places.
+-- What the loops over a list of letters and a line still owe when they have passed i places.
 use mathlib.Core.Path.{_≡_, refl, sym, _∙_}
 use mathlib.Core.Bool.{Bool, true, false, not}
 use mathlib.Core.List.{List, [], _∷_}
@@ -10,21 +10,6 @@ use lib.ListN.{length, drop, getD, drop-of-length-le}
 use lib.Seq.{drop-cons}
 use Rattle.logic.specs.Rules.{both, either}
 use Rattle.revlib.specs.Grammar.{isIn, different, wireOf}
-use Rattle.revlib.specs.Reading.{starts}
-
-module _ (word s : List ℕ) (i : ℕ) (more : i < length word) where
-  pub starts-turn : (t : Bool) → i < length s → eqb (getD s i 0) (getD word i 0) ≡ t
-      → starts (drop i word) (drop i s) ≡ both t (starts (drop (i + 1) word) (drop (i + 1) s))
-  unfolding starts
-  starts-turn t h e = rw (← e, add-one, drop-cons word i 0 more, drop-cons s i 0 h)
-
-  pub starts-short : length s ≤ i → starts (drop i word) (drop i s) ≡ false
-  unfolding starts
-  starts-short h = rw (drop-cons word i 0 more, drop-of-length-le s h)
-
-pub starts-done : (word s : List ℕ) (i : ℕ) → length word ≤ i → starts (drop i word) (drop i s) ≡ true
-unfolding starts
-starts-done word s i h = rw (drop-of-length-le word h)
 
 module _ (l : List ℕ) (i : ℕ) (more : i < length l) (t : Bool) where
   pub in-turn : (x : ℕ) → eqb (getD l i 0) x ≡ t → isIn x (drop i l) ≡ either t (isIn x (drop (i + 1) l))

@@ -1,34 +1,9 @@
-// Words of RevLib text: a keyword at the front, letters and the wires they name, and the gate of a line.
+// Words of RevLib text: letters and the wires they name, and the gate of a line.
 ghost use mathlib.Core.Path.{_≡_};
 ghost use Prim.Native.Nat.{_^_, _≤_};
-ghost use lib.ListN.{length, drop};
+ghost use lib.ListN.{length};
 ghost use Rattle.logic.specs.Lists.{allOf};
-ghost use Rattle.revlib.specs.Grammar.{gateLine, isIn, different, declared, lineOk, wireOf, gateByte};
-ghost use Rattle.revlib.specs.Reading.{starts, announced, endHere};
-
-// What is left of a text from a place on; nothing past its end.
-pub fn rest(s: &[u8], at: usize) -> &[u8]
-    ensures { λ r. ⌜ now r ≡ drop at (now (s .entry)) ⌝ }
-{
-    if at <= s.len() { &s[at..] } else { &s[..0] }
-}
-
-// Whether a text begins with a word.
-pub fn starts(s: &[u8], word: &[u8]) -> bool
-    ensures { λ r. ⌜ r ≡ starts (now (word .entry)) (now (s .entry)) ⌝ }
-{
-    let mut i = 0;
-    while i < word.len() {
-        if i >= s.len() {
-            return false;
-        }
-        if s[i] != word[i] {
-            return false;
-        }
-        i += 1;
-    }
-    true
-}
+ghost use Rattle.revlib.specs.Grammar.{isIn, different, declared, lineOk, wireOf, gateByte};
 
 // Whether a letter is one of a list.
 pub fn is_in(x: u8, list: &[u8]) -> bool
@@ -117,55 +92,4 @@ pub fn gate_byte(letters: &[u8], line: &[u8]) -> u8
         _ => (control(letters, line[0])
             + (control(letters, line[1]) + 32 * wire_of(letters, line[2]))) as u8,
     }
-}
-
-// Whether a text begins with the line of these letters.
-pub fn line_starts(s: &[u8], line: &[u8]) -> bool
-    requires { ⌜ (1 ≤ length (now line)) × (length (now line) ≤ 3) ⌝ }
-    ensures { λ r. ⌜ r ≡ starts (gateLine (now (line .entry))) (now (s .entry)) ⌝ }
-{
-    match line.len() {
-        1 => {
-            let word = [b't', b'1', b' ', line[0], b'\n'];
-            starts(s, &word)
-        }
-        2 => {
-            let word = [b't', b'2', b' ', line[0], b' ', line[1], b'\n'];
-            starts(s, &word)
-        }
-        _ => {
-            let word = [
-                b't',
-                b'3',
-                b' ',
-                line[0],
-                b' ',
-                line[1],
-                b' ',
-                line[2],
-                b'\n',
-            ];
-            starts(s, &word)
-        }
-    }
-}
-
-// How many letters the line's first word announces, or 0.
-pub fn announced(s: &[u8]) -> usize
-    ensures { λ r. ⌜ r ≡ announced (now (s .entry)) ⌝ }
-{
-    if starts(s, b"t1") {
-        return 1;
-    }
-    if starts(s, b"t2") {
-        return 2;
-    }
-    if starts(s, b"t3") { 3 } else { 0 }
-}
-
-// Whether `.end` and its line feed are all that is left.
-pub fn end_here(s: &[u8]) -> bool
-    ensures { λ r. ⌜ r ≡ endHere (now (s .entry)) ⌝ }
-{
-    logic::both(starts(s, b".end\n"), s.len() == 5)
 }

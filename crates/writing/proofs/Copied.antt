@@ -6,7 +6,7 @@ use Prim.Native.Nat.{ℕ, suc, _+_, _≤_}
 use native.Mathlib.Omega.{arith}
 use lib.ListN.{length, take, drop}
 use lib.Seq.{length-take-le, take-length}
-use Rattle.fields.specs.Circuits.{headByte, circuitBytes}
+use Rattle.circuit_fields.specs.Circuits.{headByte, circuitBytes}
 
 front : (h l k : ℕ) (path : List ℕ) (len : ℕ) → take (3 + len) (h ∷ l ∷ k ∷ path) ≡ h ∷ l ∷ k ∷ take len path
 front h l k path len = let e : 3 + len ≡ suc (suc (suc len)) = omega arith in rw e

@@ -3,7 +3,7 @@ ghost use mathlib.Core.Path.{_≡_};
 ghost use mathlib.Core.List.{_∷_, _++_};
 ghost use Prim.Native.Nat.{_+_, _≤_, _<_};
 ghost use lib.ListN.{length, take, drop};
-ghost use Rattle.fields.specs.Circuits.{headByte, circuitBytes};
+ghost use Rattle.circuit_fields.specs.Circuits.{headByte, circuitBytes};
 
 // A record with room for twelve gates.
 fn whole_record(head: u8, layout: u8, count: u8, path: [u8; 12]) -> [u8; 15]

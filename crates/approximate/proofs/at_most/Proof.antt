@@ -6,7 +6,7 @@ use lib.ListN.{length}
 use lib.Seq.{length-take-le}
 use Rattle.problem.specs.Problems.{firstGood}
 use Rattle.states.specs.declared.Task.{Task}
-use Rattle.nearing.specs.Loose.{loosened}
+use Rattle.loosening.specs.Loose.{loosened}
 use Rattle.outcomes.specs.Outcomes.{problemOf}
 use Rattle.search.proofs.Posed.{Handed, in-range, limited, sliced, posed}
 use Rattle.approximate.proofs.Posed.{walked-first}

@@ -9,7 +9,7 @@ use borrow.Fn.PlainCycle.{Measures, is, falls, and}
 use lib.ListN.{length, take, drop}
 use Rattle.cutting.specs.Records.{records}
 use Rattle.cutting.proofs.Cutting.{none-asked, none-here, long-rest}
-use Rattle.batch.proofs.Filling.{untouched, enough, cells-grown, statuses-grown}
+use Rattle.batches.proofs.Filling.{untouched, enough, cells-grown, statuses-grown}
 use Rattle.batch.proofs.search_each.Reads as search-each
 use Rattle.batch.proofs.search_each.Kinds as search-each-kinds
 use Rattle.batch.proofs.+search_each.Lts-search_each as search-each-lts

@@ -9,7 +9,7 @@ use Rattle.report.proofs.Short.{refused-short}
 use Rattle.approximate.specs.Calls.{closestOf}
 use Rattle.approximate.proofs.Told.{when-refused, when-found}
 use Rattle.closeness.specs.Closeness.{printed, closestText}
-use Rattle.closeness.specs.Inner.{bothLines}
+use Rattle.miss_lines.specs.Inner.{bothLines}
 use Rattle.closeness.proofs.closest_text.Statement.{statement}
 use Rattle.closeness.proofs.closest_text.Tie as tie
 

@@ -3,7 +3,7 @@ use mathlib.Core.List.{List}
 use Prim.Native.Nat.{ℕ}
 use borrow.Author.Needs.{needs}
 use lib.ListN.{drop}
-use Rattle.fields.proofs.Rest.{part, no-part}
+use Rattle.logic.proofs.Rest.{part, no-part}
 use Rattle.fields.proofs.table.Statement.{statement}
 use Rattle.fields.proofs.table.Tie as tie
 

@@ -9,8 +9,8 @@ use Rattle.cutting.specs.Records.{countOf, jobAt}
 use Rattle.pieces.specs.Text.{inFront}
 use Rattle.lines.specs.Lines.{lineOf}
 use Rattle.report.proofs.Short.{refused-short}
-use Rattle.files.specs.Parts.{partAt}
-use Rattle.files.proofs.Parts.{count-whole, line-whole, line-short}
+use Rattle.batch_lines.specs.Parts.{partAt}
+use Rattle.batch_lines.proofs.Parts.{count-whole, line-whole, line-short}
 use Rattle.files.proofs.batch_part.Statement.{statement}
 use Rattle.files.proofs.batch_part.Tie as tie
 

@@ -23,14 +23,14 @@ use Rattle.states.specs.declared.Task.{Task}
 use Rattle.states.specs.declared.Node.{Node}
 use Rattle.states.specs.declared.Entry.{Entry}
 use Rattle.states.specs.States.{listOf, needless, Posed, At, Lists}
-use Rattle.nearing.specs.Loose.{loosened}
+use Rattle.loosening.specs.Loose.{loosened}
 use Rattle.nearing.proofs.dfs.Reads as dfs
 use Rattle.nearing.proofs.dfs.Kinds as dfs-kinds
 use Rattle.nearing.proofs.+dfs.Lts-dfs as dfs-lts
-use Rattle.nearing.proofs.consider_near.Reads as consider-near-reads
-use Rattle.nearing.proofs.hopeful.Reads as hopeful-reads
+use Rattle.loosening.proofs.consider_near.Reads as consider-near-reads
+use Rattle.loosening.proofs.hopeful.Reads as hopeful-reads
 use Rattle.advancing.proofs.advance.Reads as advance-reads
-use Rattle.products.proofs.table_of.Reads as table-of-reads
+use Rattle.product_tables.proofs.table_of.Reads as table-of-reads
 use Rattle.nearing.proofs.+dfs.{statement}
 use Rattle.nearing.proofs.+dfs.Tie.{close}
 

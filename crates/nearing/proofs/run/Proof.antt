@@ -12,8 +12,8 @@ use Rattle.problem.specs.Problems.{firstGood}
 use Rattle.problem.specs.Inner.{lookedUnder}
 use Rattle.pruned.specs.Pruned.{triedUnder}
 use Rattle.states.specs.States.{needless}
-use Rattle.nearing.specs.Loose.{loosened}
-use Rattle.nearing.proofs.Near.{nothing-lost}
+use Rattle.loosening.specs.Loose.{loosened}
+use Rattle.loosening.proofs.Near.{nothing-lost}
 use Rattle.nearing.proofs.run.Statement.{statement}
 use Rattle.nearing.proofs.run.Tie as tie
 

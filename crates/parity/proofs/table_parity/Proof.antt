@@ -5,7 +5,8 @@ use borrow.Author.Tests.{not-true, not-false, eq-eqb, ne-eqb}
 use borrow.Author.Needs.{needs}
 use Rattle.table.specs.Rows.{valueOf}
 use Rattle.fields.specs.Jobs.{rows}
-use Rattle.parity.specs.Parity.{tableParity, inversions}
+use Rattle.permuting.specs.Values.{inversions}
+use Rattle.parity.specs.Parity.{tableParity}
 use Rattle.parity.proofs.table_parity.Statement.{statement}
 use Rattle.parity.proofs.table_parity.Tie as tie
 

@@ -15,14 +15,14 @@ slice-aggregate-read-full c =
     let k = r .ensures .1 in
     sym (length-take-le (r .result) (b .result) (omega arith))
 
-array-share-prefix-input : tie.Need-array-share-prefix-input
-array-share-prefix-input c =
+array-share-prefix-job : tie.Need-array-share-prefix-job
+array-share-prefix-job c =
     let r = c .before .read-full in
     let n : r .result ≤ length (r .last .1 .0) = search needs in
     omega (arith, length-append (r .last .1 .0) (drop (c .before .before .before .room .result) (c .before .before .before .before .buffer .result)))
 
 slice-aggregate-line : tie.Need-slice-aggregate-line
-slice-aggregate-line c = sym (length-take-le _ _ (array-share-prefix-input (c .before)))
+slice-aggregate-line c = sym (length-take-le _ _ (array-share-prefix-job (c .before)))
 
 array-share-prefix-out : tie.Need-array-share-prefix-out
 array-share-prefix-out c = let k = c .before .line .kept .1 .0 in let s = c .before .line .ensures .1 .0 in omega arith
@@ -33,5 +33,5 @@ slice-aggregate-write-all c = sym (length-take-le _ _ (array-share-prefix-out (c
 pub answer-spec : {M : Type 1} → statement M
 answer-spec =
     tie.close (tie.spec (λ c κs. search needs) (λ c κs. search needs) (λ c. search needs) slice-aggregate-read-full (λ c κs. search needs)
-    array-share-prefix-input slice-aggregate-line (λ c. search needs) (λ c κs. search needs) array-share-prefix-out
+    array-share-prefix-job slice-aggregate-line (λ c. search needs) (λ c κs. search needs) array-share-prefix-out
     slice-aggregate-write-all (λ c κs. search needs) (λ c. search needs))

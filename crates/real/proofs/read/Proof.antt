@@ -6,7 +6,7 @@ use Prim.Native.Nat.{ℕ, _+_, _≤_}
 use native.Mathlib.Omega.{arith}
 use lib.ListN.{length, take}
 use Rattle.logic.specs.Answers.{Answer, refused, answered}
-use Rattle.fields.specs.Circuits.{circuitBytes}
+use Rattle.circuit_fields.specs.Circuits.{circuitBytes}
 use Rattle.writing.proofs.Copied.{record-size}
 use Rattle.revlib.specs.Reading.{parse, outcomeOf, readOf, sizeOf, written}
 use Rattle.revlib.proofs.Promises.{narrow, within, longer}

@@ -9,7 +9,7 @@ use borrow.Author.Needs.{needs}
 use Rattle.logic.specs.Rules.{pick}
 use Rattle.logic.specs.Answers.{answered}
 use Rattle.running.specs.Run.{forwards, backwards}
-use Rattle.fields.specs.Circuits.{gates}
+use Rattle.circuit_fields.specs.Circuits.{gates}
 use Rattle.runs.specs.Runs.{runCode, runOf}
 use Rattle.runs.proofs.Ended.{ran-small}
 use Rattle.runs.proofs.run.Statement.{statement}

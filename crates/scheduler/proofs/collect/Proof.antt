@@ -6,9 +6,9 @@ use lib.ListN.{length}
 use Rattle.logic.specs.Answers.{Answer, refused}
 use Rattle.outcomes.specs.Outcomes.{Found, reported, written}
 use Rattle.slot.specs.Slots.{Slot, isFinished, resultOf}
-use Rattle.scheduler.specs.States.{collectCode, withSlot}
-use Rattle.scheduler.specs.Calls.{viewState}
-use Rattle.scheduler.proofs.Rules.{collect-parts, collect-refused, collect-done}
+use Rattle.slot_states.specs.States.{collectCode, withSlot}
+use Rattle.slot_states.specs.Calls.{viewState}
+use Rattle.slot_states.proofs.Rules.{collect-parts, collect-refused, collect-done}
 use Rattle.scheduler.proofs.collect.Statement.{statement}
 use Rattle.scheduler.proofs.collect.Tie as tie
 

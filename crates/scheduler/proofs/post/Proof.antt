@@ -3,9 +3,9 @@ use mathlib.Core.Path.{_≡_, sym, ap, _∙_}
 use borrow.Author.Needs.{needs}
 use Rattle.logic.specs.Answers.{refused}
 use Rattle.slot.specs.Slots.{Slot}
-use Rattle.scheduler.specs.States.{postCode, withSlot}
-use Rattle.scheduler.specs.Calls.{viewState}
-use Rattle.scheduler.proofs.Rules.{post-parts, post-refused, post-accepted}
+use Rattle.slot_states.specs.States.{postCode, withSlot}
+use Rattle.slot_states.specs.Calls.{viewState}
+use Rattle.slot_states.proofs.Rules.{post-parts, post-refused, post-accepted}
 use Rattle.scheduler.proofs.post.Statement.{statement}
 use Rattle.scheduler.proofs.post.Tie as tie
 

@@ -1,8 +1,8 @@
 -- No slot working, or one that is served.
 use mathlib.Core.Path.{sym, ap, _∙_}
 use borrow.Author.Needs.{needs}
-use Rattle.scheduler.specs.Calls.{viewState, serviceAnswer}
-use Rattle.scheduler.proofs.Serving.{turn-idle, turn-served}
+use Rattle.slot_states.specs.Calls.{viewState, serviceAnswer}
+use Rattle.slot_states.proofs.Serving.{turn-idle, turn-served}
 use Rattle.scheduler.proofs.turn.Statement.{statement}
 use Rattle.scheduler.proofs.turn.Tie as tie
 

@@ -2,7 +2,8 @@ use mathlib.Core.Path.{_≡_, refl}
 use native.Mathlib.Omega.{arith}
 use borrow.Author.Needs.{needs}
 use borrow.Author.Tests.{not-true, not-false}
-use Rattle.solver.proofs.Handover.{settled-first, settled-none, none-below}
+use Rattle.bids.proofs.Supplies.{none-below}
+use Rattle.solver.proofs.Handover.{settled-first, settled-none}
 use Rattle.solver.proofs.settle.Statement.{statement}
 use Rattle.solver.proofs.settle.Tie as tie
 

@@ -11,7 +11,8 @@ use Rattle.filters.proofs.Sieves.{no-sieve}
 use Rattle.states.specs.States.{Posed, Limited, Bounded, Supplied}
 use Rattle.deepening.specs.Deepening.{Deepened}
 use Rattle.solver.specs.States.{Settled}
-use Rattle.solver.proofs.Handover.{supplied, deepened-held}
+use Rattle.bids.proofs.Supplies.{supplied}
+use Rattle.solver.proofs.Handover.{deepened-held}
 use Rattle.deepening.proofs.Searches.{no-sums}
 use Rattle.solver.proofs.solve.Statement.{statement}
 use Rattle.solver.proofs.solve.Tie as tie

@@ -1,7 +1,8 @@
 use mathlib.Core.Path.{_≡_, refl}
 use borrow.Author.Needs.{needs}
 use borrow.Author.Tests.{not-true, not-false}
-use Rattle.solver.proofs.Handover.{supplied, settled-first, settled-none}
+use Rattle.bids.proofs.Supplies.{supplied}
+use Rattle.solver.proofs.Handover.{settled-first, settled-none}
 use Rattle.solver.proofs.stage.Statement.{statement}
 use Rattle.solver.proofs.stage.Tie as tie
 

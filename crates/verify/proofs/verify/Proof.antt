@@ -3,7 +3,8 @@ use mathlib.Core.Path.{_≡_, ap, sym, _∙_}
 use borrow.Author.Tests.{ne-eqb}
 use borrow.Author.Needs.{needs}
 use Rattle.logic.specs.Answers.{answered}
-use Rattle.verify.specs.Calls.{measuresFor, measureCode, verifyRest, verifyOf, verifyCode}
+use Rattle.judging.specs.Judging.{verifyRest}
+use Rattle.verify.specs.Calls.{measuresFor, measureCode, verifyOf, verifyCode}
 use Rattle.verify.proofs.Codes.{Parts, measure-parts}
 use Rattle.verify.proofs.verify.Statement.{statement}
 use Rattle.verify.proofs.verify.Tie as tie

@@ -40,8 +40,8 @@ use Rattle.walk.proofs.dfs.Kinds as dfs-kinds
 use Rattle.walk.proofs.+dfs.Lts-dfs as dfs-lts
 use Rattle.logic.proofs.either.Reads as either-reads
 use Rattle.plan.proofs.plan_of.Reads as plan-of-reads
-use Rattle.products.proofs.table_of.Reads as table-of-reads
-use Rattle.reach.proofs.open_wires.Reads as open-wires-reads
+use Rattle.product_tables.proofs.table_of.Reads as table-of-reads
+use Rattle.openings.proofs.open_wires.Reads as open-wires-reads
 use Rattle.advancing.proofs.advance.Reads as advance-reads
 use Rattle.offers.proofs.affordable.Reads as affordable-reads
 use Rattle.offers.proofs.consider_met.Reads as consider-met-reads

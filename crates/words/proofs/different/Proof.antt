@@ -5,7 +5,7 @@ use Prim.Native.Nat.{_≤_, _-_, _+_}
 use native.Mathlib.Omega.{arith}
 use borrow.Author.Needs.{needs}
 use lib.ListN.{length, drop}
-use Rattle.fields.proofs.Rest.{part}
+use Rattle.logic.proofs.Rest.{part}
 use Rattle.revlib.specs.Grammar.{different}
 use Rattle.words.proofs.Loops.{different-turn, different-done}
 use Rattle.words.proofs.different.Statement.{statement}

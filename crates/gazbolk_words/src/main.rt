@@ -1,4 +1,0 @@
-// The same program, without a command.
-fn main() {
-    commands::run();
-}

@@ -1,0 +1,2 @@
+pub mod MissLines
+pub mod Inner

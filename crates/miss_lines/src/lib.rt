@@ -1,0 +1,31 @@
+// What is printed of a circuit that misses some wanted bits.
+use measures::Measures;
+ghost use mathlib.Core.Path.{_≡_};
+ghost use Prim.Native.Nat.{_≤_};
+ghost use lib.ListN.{length};
+ghost use Rattle.pieces.specs.Text.{inFront};
+ghost use Rattle.pieces.specs.Writing.{Wrote};
+ghost use Rattle.miss_lines.specs.MissLines.{missesLine};
+ghost use Rattle.miss_lines.specs.Inner.{bothLines};
+
+// Writes `misses` and the number at the start of the buffer, and answers the next index.
+fn put_misses(out: &mut [u8], k: usize) -> usize
+    requires { ⌜ 13 ≤ length (now out) ⌝ }
+    ensures { λ r. ⌜ Wrote (now (out .entry)) 0 (missesLine k) (now (out .exit)) r ⌝ }
+{
+    let a = pieces::put_text(out, 0, b"misses ");
+    let b = pieces::put_decimal(out, a, k);
+    pieces::put(out, b, b'\n')
+}
+
+// Writes both lines of a circuit at the start of the buffer, and answers their length.
+pub fn put_close(k: usize, m: Measures, circuit: &[u8], out: &mut [u8]) -> usize
+    requires { ⌜ length (now circuit) ≤ 15 ⌝ }
+    requires { ⌜ 128 ≤ length (now out) ⌝ }
+    ensures { λ r. ⌜ r ≡ length (bothLines k m (now (circuit .entry))) ⌝ }
+    ensures { λ r. ⌜ r ≤ 128 ⌝ }
+    ensures { λ _. ⌜ now (out .exit) ≡ inFront (bothLines k m (now (circuit .entry))) (now (out .entry)) ⌝ }
+{
+    let a = put_misses(out, k);
+    differences::put_found(out, a, m, circuit)
+}

@@ -1,4 +1,0 @@
-// The program, run on no input at all.
-fn main() {
-    program::answer();
-}

@@ -139,7 +139,7 @@ the gate passes over. x0 to x3 are the inputs and y0 to y3 the outputs; an ancil
 |---|---|---|
 | a circuit | [found-is](../crates/outcomes/proofs/Facts.antt) | what is found realizes the table within the limits, and every other that does comes after it in the order and costs no less |
 | none within {limit} gates | [none-is](../crates/outcomes/proofs/Facts.antt) | 14 is answered exactly when no list with an allowed layout solves the job |
-| none of any length | [odd-none](../crates/outcomes/proofs/Facts.antt), [none-realizes](../crates/odd_tables/proofs/Never.antt) | on four data wires without an ancilla no list of these gates realizes an odd table |
+| none of any length | [odd-none](../crates/outcomes/proofs/Facts.antt), [none-realizes](../crates/parity/proofs/odd_tables/Never.antt) | on four data wires without an ancilla no list of these gates realizes an odd table |
 
 The words of the theorems are definitions: `Admitted`, `Solves` and `Winner` in [Demand.antt](../crates/problem/specs/Demand.antt), over the problem of
 [Problems.antt](../crates/problem/specs/Problems.antt). Search and verify are tied together in [Verified.antt](../crates/outcomes/proofs/Verified.antt):

@@ -3,7 +3,7 @@
 
 usage: forced.py FOLDER [RADIUS]
 
-Numbers of crates/prospects/src/lib.rt are changed, none of which a contract holds: how many gates are looked at with no filter (none), the radius
+Numbers of crates/solver/src/prospects.rt are changed, none of which a contract holds: how many gates are looked at with no filter (none), the radius
 of a filter (RADIUS, 2 where it is not given, and one less where at most three gates may come), and after how many gates the wider one takes its
 place (three; so it is also filled for costs that buy more). So the copy is proved like the program itself: `cd FOLDER; rt check main gazbolk`. Then
 
@@ -30,7 +30,7 @@ def main():
     os.makedirs(folder)
     shutil.copy(os.path.join(ROOT, "crates.txt"), folder)
     shutil.copytree(os.path.join(ROOT, "crates"), os.path.join(folder, "crates"))
-    path = os.path.join(folder, "crates", "prospects", "src", "lib.rt")
+    path = os.path.join(folder, "crates", "solver", "src", "prospects.rt")
     with open(path, encoding="utf-8") as file:
         text = file.read()
     for old, new in CHANGES:

@@ -1,24 +1,25 @@
--- What the call owes: what the search tells of the first choice that misses fewest is the answer, with its misses.
+-- For the proof of `closest`: the search's answer for the first choice that misses the fewest bits, with its misses, is the answer defined.
 use mathlib.Core.Path.{_≡_, refl, sym, ap, _∙_}
 use mathlib.Core.Bool.{Bool, true, false}
 use mathlib.Core.List.{List}
-use mathlib.Core.Option.{Option, none, some}
+use mathlib.Core.Option.{Option, some}
 use Prim.Native.Nat.{ℕ}
 use borrow.Author.Tests.{ne-eqb}
 use lib.ListN.{take}
-use Rattle.logic.specs.Answers.{Answer, refused, answered}
-use Rattle.fields.specs.Jobs.{dataWires, rows, priceOf, durationOf}
-use Rattle.measures.specs.declared.Measures.{Measures}
-use Rattle.measures.specs.Measures.{measuresOf}
-use Rattle.choice.specs.declared.Best.{Best}
-use Rattle.choice.specs.Choices.{Choice}
-use Rattle.choice.specs.Inner.{choice, view}
-use Rattle.choice.proofs.Held.{held-some, held-none}
-use Rattle.misses.specs.Misses.{missedIn}
-use Rattle.misses.proofs.Fewest.{closest-misses}
-use Rattle.outcomes.specs.Outcomes.{ownSet, problemOf, recordOf, Found, reported, searchCode}
+use Rattle.logic.specs.Answers.{refused}
+use Rattle.record.specs.job_fields.Jobs.{dataWires, rows, priceOf, durationOf}
+use Rattle.circuit.specs.declared.measures.Measures.{Measures}
+use Rattle.circuit.specs.measures.Measures.{measuresOf}
+use Rattle.problem.specs.declared.order.Best.{Best}
+use Rattle.problem.specs.order.Choices.{Choice}
+use Rattle.problem.specs.order.Inner.{choice, view}
+use Rattle.problem.proofs.order.Held.{held-some, held-none}
+use Rattle.near_misses.specs.misses.Misses.{missedIn}
+use Rattle.near_misses.proofs.misses.Fewest.{closest-misses}
+use Rattle.outcomes.specs.Outcomes.{problemOf, reported}
+use Rattle.record.specs.pair_codes.Codes.{searchCode}
 use Rattle.outcomes.specs.Inner.{toldOf}
-use Rattle.approximate.specs.Calls.{fewestFor, closestFor, Close, closeOf, closestOf, circuitIn, Told, withMisses, told}
+use Rattle.approximate.specs.Calls.{fewestFor, closestFor, closeOf, closestOf, circuitIn, withMisses, told}
 
 module _ (job : List ℕ) (room : ℕ) where
   pub by-code : (searchCode job room ≡ 0 → ⊥) → closestOf job room ≡ refused (searchCode job room)

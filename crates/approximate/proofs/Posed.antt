@@ -1,26 +1,26 @@
 -- The problems of a job under which some wanted bits may be missed: by columns as the walk takes them, and by rows as they are defined.
-use mathlib.Core.Path.{_≡_, refl, sym, _∙_}
-use mathlib.Core.List.{List, List·Memᴰ}
+use mathlib.Core.Path.{_≡_, sym}
+use mathlib.Core.List.{List}
 use Prim.Native.Nat.{ℕ}
 use mathlib.Core.Bool.{true}
 use Rattle.logic.specs.Lists.{allOf, Among}
 use Rattle.logic.proofs.Members.{among-all}
 use Rattle.gate.specs.Gates.{lawful}
 use Rattle.gate.proofs.Widen.{widen}
-use Rattle.running.specs.Inner.{columnsAfter}
+use Rattle.circuit.specs.run.Inner.{columnsAfter}
 use Rattle.table.specs.Rows.{realizes}
 use Rattle.record.specs.JobRules.{jobCode}
-use Rattle.fields.specs.Jobs.{longer, mostControls, dataWires, wires, rows}
+use Rattle.record.specs.job_fields.Jobs.{longer, mostControls, dataWires, wires, rows}
 use Rattle.record.proofs.Kept.{sound-job, wires-within}
-use Rattle.fields.proofs.Widths.{two-or-three}
+use Rattle.record.proofs.job_fields.Widths.{two-or-three}
 use Rattle.columns.specs.Wanted.{wantedOf, startColumns}
 use Rattle.problem.specs.Problems.{Problem, firstGood}
-use Rattle.misses.specs.Misses.{approximates, missingAtMost}
-use Rattle.misses.specs.Columns.{nearly}
-use Rattle.misses.proofs.Rows.{none-realizes}
-use Rattle.misses.proofs.Counted.{columned}
-use Rattle.misses.proofs.Fewest.{same-first}
-use Rattle.loosening.specs.Loose.{loosened}
+use Rattle.near_misses.specs.misses.Misses.{approximates, missingAtMost}
+use Rattle.near_misses.specs.misses.Columns.{nearly}
+use Rattle.near_misses.proofs.misses.Rows.{none-realizes}
+use Rattle.near_misses.proofs.misses.Counted.{columned}
+use Rattle.near_misses.proofs.misses.Fewest.{same-first}
+use Rattle.near_misses.specs.near_offer.Loose.{loosened}
 use Rattle.outcomes.specs.Outcomes.{ownSet, problemOver, problemOf}
 use Rattle.search.specs.Inner.{taskOf}
 use Rattle.outcomes.proofs.Facts.{own-kept}

@@ -7,32 +7,31 @@ use mathlib.Core.Option.{Option, none, some}
 use Prim.Native.Nat.{ℕ, _≤_}
 use native.Mathlib.Decide.{ℕ-discrete}
 use native.Mathlib.Omega.{arith}
-use borrow.Author.Tests.{le-leb, leb-true, ne-eqb}
+use borrow.Author.Tests.{le-leb}
 use lib.Dec.{eqb, leb, lit<}
-use lib.ListN.{length}
-use Rattle.logic.specs.Rules.{both, pick}
+use Rattle.logic.specs.Rules.{pick}
 use Rattle.logic.specs.Lists.{allOf, total, along}
-use Rattle.logic.specs.Answers.{Answer, refused, answered}
+use Rattle.logic.specs.Answers.{refused, answered}
 use Rattle.logic.proofs.Chain.{both-parts, both-true, rule-never, and-then-never}
 use Rattle.logic.proofs.Members.{among-nil}
 use Rattle.circuit.specs.Measure.{greatest}
-use Rattle.layouts.specs.Layouts.{Width, layoutOk, plain, allowed, layoutsFor}
-use Rattle.table.specs.Rows.{clean, realizes}
-use Rattle.layouts.proofs.Layouts.{layout-has}
+use Rattle.table.specs.layouts.Layouts.{Width, layoutOk, plain, allowed, layoutsFor}
+use Rattle.table.proofs.layouts.Layouts.{layout-has}
 use Rattle.table.proofs.Rows.{bare-clean}
 use Rattle.record.specs.JobRules.{jobLengthOk, sizeOk, headOk, limitOk, durationsOk, rowsOk, jobCode}
-use Rattle.fields.specs.Jobs.{dataWires, freeLayout, rows, priceOf, durationOf}
+use Rattle.record.specs.job_fields.Jobs.{dataWires, freeLayout, rows, priceOf, durationOf}
 use Rattle.record.proofs.Kept.{sound-job}
-use Rattle.measures.specs.Measures.{measuresOf}
-use Rattle.choice.specs.Choices.{Choice}
-use Rattle.problem.specs.Problems.{choiceOf, choices, good, firstGood}
-use Rattle.problem.specs.Demand.{Admitted, Solves}
+use Rattle.circuit.specs.measures.Measures.{measuresOf}
+use Rattle.problem.specs.order.Choices.{Choice}
+use Rattle.problem.specs.Problems.{choiceOf, good, firstGood}
+use Rattle.problem.specs.Demand.{Solves}
 use Rattle.problem.proofs.Facts as Demand
 use Rattle.problem.proofs.Listed.{unlisted, within-joined}
-use Rattle.misses.specs.Misses.{missedBits, missedIn, tidily, approximates, missingAtMost, missingAny, fewestMisses, closestChoice}
-use Rattle.misses.proofs.Rows.{most-missed}
-use Rattle.misses.proofs.Fewest.{none-fewer, fewest-found, closest-misses, closest-some}
-use Rattle.outcomes.specs.Outcomes.{ownSet, problemOver, problemOf, recordOf, Found, foundOf, outcomeOf, searchCode, searchOver, searchOf}
+use Rattle.near_misses.specs.misses.Misses.{missedBits, missedIn, tidily, approximates, missingAny, closestChoice}
+use Rattle.near_misses.proofs.misses.Rows.{most-missed}
+use Rattle.near_misses.proofs.misses.Fewest.{none-fewer, fewest-found, closest-misses, closest-some}
+use Rattle.outcomes.specs.Outcomes.{ownSet, problemOver, problemOf, recordOf, Found, foundOf, outcomeOf, searchOver, searchOf}
+use Rattle.record.specs.pair_codes.Codes.{searchCode}
 use Rattle.outcomes.proofs.Facts.{code-parts, found-code}
 use Rattle.search.proofs.Posed.{rows-few}
 use Rattle.approximate.specs.Calls.{fewestFor, closestFor, Close, closeOf, closestOf}

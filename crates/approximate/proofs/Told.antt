@@ -1,13 +1,13 @@
 -- What a caller learns of the outcome from what the call returned and left in the buffer.
-use mathlib.Core.Path.{_≡_, refl, ap, _∙_}
+use mathlib.Core.Path.{_≡_, ap}
 use mathlib.Core.List.{List}
 use Prim.Native.Nat.{ℕ}
 use native.Mathlib.Omega.{arith}
 use lib.ListN.{length, take, drop}
 use lib.Seq.{take-at}
 use Rattle.logic.specs.Answers.{Answer, refused, answered}
-use Rattle.measures.specs.declared.Measures.{Measures}
-use Rattle.outcomes.specs.Outcomes.{Reported, written}
+use Rattle.circuit.specs.declared.measures.Measures.{Measures}
+use Rattle.outcomes.specs.Outcomes.{written}
 use Rattle.approximate.specs.declared.Nearest.{Nearest}
 use Rattle.approximate.specs.declared.Nearest.the-variants.{Refused, Found}
 use Rattle.approximate.specs.Calls.{Close, Told, circuitIn, told, nearestAnswer}

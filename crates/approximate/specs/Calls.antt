@@ -1,21 +1,22 @@
--- What is answered where the closest circuit is asked for (document 02, slip 10).
+-- What `closest` answers (document 02, slip 10).
 use mathlib.Core.List.{List}
 use mathlib.Core.Option.{Option, none, some}
 use Prim.Native.Nat.{ℕ}
 use lib.Dec.{eqb}
-use lib.ListN.{length}
 use Rattle.logic.specs.Rules.{pick}
 use Rattle.logic.specs.Answers.{Answer, refused, answered}
-use Rattle.fields.specs.Jobs.{dataWires, rows}
-use Rattle.choice.specs.Choices.{Choice}
-use Rattle.misses.specs.Misses.{missedIn, fewestMisses, closestChoice}
-use Rattle.outcomes.specs.Outcomes.{ownSet, problemOf, Found, foundOf, Reported, reported, searchCode}
+use Rattle.record.specs.job_fields.Jobs.{dataWires, rows}
+use Rattle.problem.specs.order.Choices.{Choice}
+use Rattle.near_misses.specs.misses.Misses.{missedIn, fewestMisses, closestChoice}
+use Rattle.outcomes.specs.Outcomes.{ownSet, problemOf, Found, foundOf, Reported, reported}
+use Rattle.record.specs.pair_codes.Codes.{searchCode}
 use Rattle.approximate.specs.declared.Nearest.{Nearest}
 
--- "the fewest wanted bits" that a circuit for the job misses, and the first that misses so few
+-- "the fewest wanted bits" that a circuit within the job's limits misses
 abbrev pub fewestFor : List ℕ → ℕ
 fewestFor job = fewestMisses (dataWires job) (rows job) (problemOf job)
 
+-- the first choice that misses so few
 abbrev pub closestFor : List ℕ → Option Choice
 closestFor job = closestChoice (dataWires job) (rows job) (problemOf job)
 
@@ -24,7 +25,7 @@ pub record Close : Type 0 where
   pub circuit : Found
   pub misses : ℕ
 
--- "There is always one", so that 14 is never answered: a theorem
+-- "There is always one", so 14 is never answered: a theorem of proofs/Promises.antt
 abbrev pub closeOf : List ℕ → Option Choice → Answer Close
 closeOf job none = refused 14
 closeOf job (some c) = answered (record { circuit = foundOf (ownSet job) job c; misses = missedIn (rows job) c })
@@ -47,16 +48,17 @@ abbrev pub withMisses : ℕ → Answer Reported → Answer Told
 withMisses k (refused code) = refused code
 withMisses k (answered r) = answered (record { report = r; misses = k })
 
+-- the part of an answer that is returned
 abbrev pub told : Answer Close → Answer Told
 told (refused code) = refused code
 told (answered c) = withMisses (c .misses) (reported (answered (c .circuit)))
 
--- the number of a refusal, and the values of the other case
+-- the code's enum as an answer: the refusal code, or what is returned
 abbrev pub nearestAnswer : Nearest → Answer Told
 nearestAnswer (Nearest.Refused code) = refused code
 nearestAnswer (Nearest.Found size m k) = answered (record { report = record { size = size; measures = m }; misses = k })
 
--- the length that an answer names
+-- the length of the record in an answer, 0 for a refusal
 abbrev pub sizeIn : Nearest → ℕ
 sizeIn (Nearest.Refused code) = 0
 sizeIn (Nearest.Found size m k) = size

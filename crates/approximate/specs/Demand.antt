@@ -1,14 +1,14 @@
--- Slip 10's words, over a list and a layout: what is within all limits and clean, and which of those comes first.
+-- Slip 10 in its own words, over a list and a layout: which are allowed, and which of them is the closest.
 use mathlib.Core.Path.{_≡_}
 use mathlib.Core.Bool.{true}
 use mathlib.Core.Logic.{_⊎_}
 use mathlib.Core.List.{List}
 use Prim.Native.Nat.{ℕ, _≤_}
-use Rattle.fields.specs.Jobs.{dataWires, rows}
-use Rattle.choice.specs.Choices.{before}
+use Rattle.record.specs.job_fields.Jobs.{dataWires, rows}
+use Rattle.problem.specs.order.Choices.{before}
 use Rattle.problem.specs.Problems.{choiceOf}
 use Rattle.problem.specs.Demand.{Solves}
-use Rattle.misses.specs.Misses.{missedBits, missingAny}
+use Rattle.near_misses.specs.misses.Misses.{missedBits, missingAny}
 use Rattle.outcomes.specs.Outcomes.{problemOf}
 
 -- "within all limits, with the job's n and m, an allowed placing and ancilla clean", whatever wanted bits it misses

@@ -1,35 +1,41 @@
-// The public call for the closest circuit: the one that misses the fewest wanted bits, where none within the limits realizes the table.
-use choice::Best;
-use measures::Measures;
+// The public call `closest`: of the circuits within all limits, the one that misses the fewest wanted bits of the table. A caller gets the
+// record in the answer buffer, its length and measures, and the number of wanted bits that it misses: 0 exactly where `search` finds a
+// circuit, and then both give the same record. There is always such a circuit, so only the job's own checks and 13 refuse
+// (proofs/Promises.antt).
+use circuit::measures::Measures;
+use near_misses::near_walk;
 use outcomes::Searched;
+use problem::order::Best;
+use record::call_codes;
 ghost use mathlib.Core.Path.{_≡_};
 ghost use Prim.Native.Nat.{_≤_};
 ghost use lib.ListN.{length};
 ghost use Rattle.record.specs.JobRules.{jobCode};
-ghost use Rattle.fields.specs.Jobs.{dataWires, rows};
-ghost use Rattle.choice.specs.Inner.{view};
+ghost use Rattle.record.specs.job_fields.Jobs.{dataWires, rows};
+ghost use Rattle.problem.specs.order.Inner.{view};
 ghost use Rattle.problem.specs.Problems.{firstGood};
-ghost use Rattle.misses.specs.Misses.{missingAtMost};
+ghost use Rattle.near_misses.specs.misses.Misses.{missingAtMost};
 ghost use Rattle.outcomes.specs.Outcomes.{problemOf, written, searchedAnswer};
 ghost use Rattle.outcomes.specs.Outcomes as outcomes;
 ghost use Rattle.approximate.specs.Calls.{fewestFor, closestFor, closestOf, circuitIn, withMisses, told, nearestAnswer, sizeIn};
 
-// What the call answers: a refusal's number, or the record's length and measures, and how many wanted bits are missed.
+// The answer: a refusal code, or the record's length, its measures, and the number of wanted bits missed.
 pub enum Nearest {
     Refused(u8),
     Found(usize, Measures, usize),
 }
 
-// The first choice of those that miss fewest wanted bits, and how many that are.
+// The closest choice, and the number of wanted bits that it misses.
 struct Near {
     misses: usize,
     best: Best,
 }
 
-// The first good choice of a well-formed job of those that miss at most `k` wanted bits.
+// The first choice within the limits of a well-formed job that misses at most `k` wanted bits.
 fn at_most(job: &[u8], k: usize) -> Best
     requires { ⌜ jobCode (now job) ≡ 0 ⌝ }
-    ensures { λ r. ⌜ view r ≡ firstGood (missingAtMost (dataWires (now (job .entry))) (rows (now (job .entry))) k (problemOf (now (job .entry)))) ⌝ }
+    ensures { λ r. ⌜ view r
+        ≡ firstGood (missingAtMost (dataWires (now (job .entry))) (rows (now (job .entry))) k (problemOf (now (job .entry)))) ⌝ }
     ensures { λ r. ⌜ r .len ≤ 12 ⌝ }
 {
     let own = outcomes::own_tables(job);
@@ -37,7 +43,7 @@ fn at_most(job: &[u8], k: usize) -> Best
     let gates = own.gates;
     let prices = own.prices;
     let durations = own.durations;
-    nearing::run(
+    near_walk::run(
         &gates[..count],
         &prices[..count],
         &durations[..count],
@@ -46,8 +52,8 @@ fn at_most(job: &[u8], k: usize) -> Best
     )
 }
 
-// The first choice of those that miss fewest: none missed, where the search finds a circuit; else one more in each turn. A table wants at
-// most 64 bits.
+// The closest choice. The search is tried first; as long as nothing is found, one more missed bit is allowed at each turn. A table wants at
+// most 64 bits, so that 64 turns are enough.
 fn approach(job: &[u8]) -> Near
     requires { ⌜ jobCode (now job) ≡ 0 ⌝ }
     ensures { λ r. ⌜ (r .misses ≡ fewestFor (now (job .entry))) × (view (r .best) ≡ closestFor (now (job .entry))) ⌝ }
@@ -66,7 +72,7 @@ fn approach(job: &[u8]) -> Near
     Near { misses: k, best }
 }
 
-// What the search tells of a circuit, with how many wanted bits it misses.
+// A search's answer, with the number of wanted bits missed.
 fn with_misses(searched: Searched, k: usize) -> Nearest
     ensures { λ r. ⌜ nearestAnswer r ≡ withMisses k (searchedAnswer searched) ⌝ }
     ensures { λ r. ⌜ sizeIn r ≡ outcomes.sizeIn searched ⌝ }
@@ -77,14 +83,15 @@ fn with_misses(searched: Searched, k: usize) -> Nearest
     }
 }
 
-// Searches for the circuit within all limits that misses the fewest wanted bits, the first of these in the search's order, and writes it to
-// `answer`.
+// Searches for the circuit within all limits that misses the fewest wanted bits, of several the first in the search's order, and writes its
+// record to the front of `answer`.
 pub fn closest(job: &[u8], answer: &mut [u8]) -> Nearest
     ensures { λ r. ⌜ nearestAnswer r ≡ told (closestOf (now (job .entry)) (length (now (answer .entry)))) ⌝ }
     ensures { λ r. ⌜ sizeIn r ≤ 15 ⌝ }
-    ensures { λ _. ⌜ now (answer .exit) ≡ written (circuitIn (closestOf (now (job .entry)) (length (now (answer .entry))))) (now (answer .entry)) ⌝ }
+    ensures { λ _. ⌜ now (answer .exit)
+        ≡ written (circuitIn (closestOf (now (job .entry)) (length (now (answer .entry))))) (now (answer .entry)) ⌝ }
 {
-    let code = single_codes::search_code(job, answer.len());
+    let code = call_codes::search_code(job, answer.len());
     if code != 0 {
         return Nearest::Refused(code);
     }

@@ -1,5 +1,6 @@
--- Gates are at most the wires times the depth, where every lawful gate has a duration of at least 1: each gate moves the sum of the ready times on by at
--- least 1, and only the W wires of the list are ever held. So depth is never below the gates divided by the wires, rounded up.
+-- A lower bound on depth: if every lawful gate lasts at least 1, the number of gates is at most the wires times the depth. Each gate
+-- raises the sum of the ready times by at least 1, and only the W wires of the list are ever held. So the depth is at least the number
+-- of gates divided by the number of wires, rounded up.
 use mathlib.Core.Path.{_≡_, refl, sym, _∙_}
 use mathlib.Core.Bool.{Bool, true, false, not}
 use mathlib.Core.List.{List, [], _∷_}
@@ -42,7 +43,7 @@ sum-later (t ∷ ts) (u ∷ us) d zero l s h g = omega (arith, g, sum-sooner ts 
 sum-later (t ∷ ts) (u ∷ us) d (suc w) l s h g =
     omega (arith, s 0, sum-later ts us d w (omega arith) (λ w. s (suc w)) (le-of-suc-le-suc h) g)
 
--- W numbers of at most m, and nothing past them
+-- W numbers of at most m, and zeros past them
 sum-within : (ts : List ℕ) (w m : ℕ) → Until m ts → ((i : ℕ) → w ≤ i → getD ts i 0 ≡ 0) → sum ts ≤ w * m
 unfolding sum total
 sum-within [] w m u z = omega arith
@@ -83,7 +84,7 @@ module _ (k w b : ℕ) (hw : w ≤ 5) (h : lawful k w b ≡ true) where
         (λ i s hi. rw (hold-at (gateOf b) d ts i s, held-below i hi (omega arith)) (z i hi))
         (λ i s hi. hold-past (gateOf b) d ts i s)
 
-    -- the target's ready time moves on by the duration at least
+    -- the target's ready time grows by at least the duration
     moves : sum ts + d ≤ sum (hold (gateOf b) d ts)
     unfolding gateOf
     moves =

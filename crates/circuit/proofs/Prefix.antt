@@ -1,4 +1,4 @@
--- The measures of a list's front never exceed those of the list; depth is never above the sum of durations.
+-- No measure of a prefix exceeds that of the whole list. The depth is at most the sum of the durations.
 use mathlib.Core.List.{List, _++_}
 use Prim.Native.Nat.{ℕ, _+_, _≤_}
 use native.Mathlib.Omega.{arith}

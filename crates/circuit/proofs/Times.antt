@@ -1,5 +1,5 @@
--- What one gate does to the ready times, wire by wire, and the laws of ready times: never earlier, in step with a later vector, and
--- never later than by the gate's duration.
+-- What one gate does to the ready times, wire by wire. The laws: a gate makes no ready time earlier, and none later than the latest by
+-- more than its duration; and it is monotone: from ready times that are nowhere later it gives ready times that are nowhere later.
 use mathlib.Core.Path.{_≡_, refl, sym, ap, _∙_}
 use mathlib.Core.Logic.{⊎-elim}
 use mathlib.Core.Bool.{Bool, true, false, false≢true}
@@ -123,7 +123,7 @@ start-after g ts w h =
         ⊎-elim (λ e. same c (eqb-true w c e) (omega arith)) (λ e. one-of-two a b (omega arith) (omega arith) e)
         (either-cases (eqb w c) (either (eqb w b) (eqb w a)) e)
 
--- every wire of the list, or none past its end
+-- by cases: a wire of the list, or a wire past its end
 pub wire-wise : {P : ℕ → Type 0} (ts : List ℕ) → ((w : ℕ) → w < length ts → P w) → ((w : ℕ) → length ts ≤ w → P w) → (w : ℕ) → P w
 wire-wise {P} ts f g w = go (decLt w (length ts))
   where
@@ -141,7 +141,7 @@ module _ (g : Gate) (d : ℕ) (ts : List ℕ) where
       inner w true e = omega (arith, start-after g ts w e)
       inner w false e = omega arith
 
-  -- nor later than the latest by more than the duration
+  -- no wire becomes ready later than the latest one by more than the duration
   pub hold-until : (m : ℕ) → Until m ts → Until (m + d) (hold g d ts)
   hold-until m u = wire-wise ts (λ w h. rw (hold-at g d ts w h) (inner w (holds g w))) (λ w h. rw (hold-past g d ts w h) (omega arith))
     where
@@ -149,7 +149,7 @@ module _ (g : Gate) (d : ℕ) (ts : List ℕ) where
       inner w true = omega (arith, start-until g m ts u)
       inner w false = omega (arith, u w)
 
-  -- nor earlier than where the wires are ready sooner
+  -- from ready times that are nowhere later, a gate gives ready times that are nowhere later
   pub hold-sooner : (us : List ℕ) → length ts ≡ length us → Sooner ts us → Sooner (hold g d ts) (hold g d us)
   hold-sooner us l s =
       wire-wise ts
@@ -166,7 +166,7 @@ module _ (duration : ℕ → ℕ) where
   length-ready [] ts = refl
   length-ready (b ∷ gs) ts = length-ready gs (holdByte duration b ts) ∙ length-hold (gateOf b) (duration b) ts
 
-  -- a list that starts no later ends no later
+  -- and so does a list of gates
   pub ready-sooner : (gs ts us : List ℕ) → length ts ≡ length us → Sooner ts us → Sooner (along (holdByte duration) gs ts) (along (holdByte duration) gs us)
   unfolding along
   ready-sooner [] ts us l s = s
@@ -175,13 +175,13 @@ module _ (duration : ℕ → ℕ) where
       (length-hold (gateOf b) (duration b) ts ∙ l ∙ sym (length-hold (gateOf b) (duration b) us))
       (hold-sooner (gateOf b) (duration b) ts us l s)
 
-  -- so the ready times of a list are never earlier than those of its front
+  -- a list of gates makes no wire ready earlier
   pub ready-rises : (gs ts : List ℕ) → Sooner ts (along (holdByte duration) gs ts)
   unfolding along
   ready-rises [] ts w = omega arith
   ready-rises (b ∷ gs) ts w = le-trans (hold-rises (gateOf b) (duration b) ts w) (ready-rises gs (holdByte duration b ts) w)
 
-  -- nor later than the sum of durations
+  -- and none ready later than the latest one by more than the sum of its durations
   pub ready-until : (gs ts : List ℕ) (m : ℕ) → Until m ts → Until (m + total duration gs) (along (holdByte duration) gs ts)
   unfolding along total
   ready-until [] ts m u w = omega (arith, u w)

@@ -1,1 +1,4 @@
 pub mod Measure
+pub mod run
+pub mod measures
+pub mod reversal

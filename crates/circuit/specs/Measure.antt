@@ -1,5 +1,5 @@
--- The measures of a gate list, as document 01 has them under 'Three measures', over any function that prices a gate byte and any that
--- gives its duration. Gates: the length of the list.
+-- The measures of a gate list, as document 01 defines them under 'Three measures', for any price and any duration of a gate byte. The
+-- measure "Gates" needs no definition: it is the length of the list.
 use mathlib.Core.List.{List, [], _∷_}
 use Prim.Native.Nat.{ℕ, _+_, max}
 use lib.ListN.{getD, set}
@@ -10,7 +10,7 @@ use Rattle.gate.specs.declared.Kind.the-variants.{Not, Cnot, Toffoli, Cccnot}
 use Rattle.gate.specs.Gates.{gateOf}
 use Rattle.circuit.specs.declared.Weights.{Weights}
 
--- a price or a duration by kind
+-- the weight (price or duration) of a kind of gate, and of a gate byte
 abbrev pub weightFor : Weights → Kind → ℕ
 weightFor ws Not = ws .not
 weightFor ws (Cnot a) = ws .cnot
@@ -24,7 +24,7 @@ weightOf ws b = weightFor ws (gateOf b .kind)
 abbrev pub cost : (ℕ → ℕ) → List ℕ → ℕ
 cost price gs = total price gs
 
--- "a gate starts when all its wires, controls included, are free"; a ready time is document 01's time at which a wire becomes free
+-- "a gate starts when all its wires, controls included, are free"; the ready time of a wire is the time from which it is free
 abbrev pub controlsReady : Kind → List ℕ → ℕ
 controlsReady Not ts = 0
 controlsReady (Cnot a) ts = getD ts a 0
@@ -48,6 +48,7 @@ hold g d ts = set (holdControls (g .kind) (start g ts + d) ts) (g .target) (star
 abbrev pub idle : List ℕ
 idle = 0 ∷ 0 ∷ 0 ∷ 0 ∷ 0 ∷ []
 
+-- the ready times after one more gate byte
 abbrev pub holdByte : (ℕ → ℕ) → ℕ → List ℕ → List ℕ
 holdByte duration b ts = hold (gateOf b) (duration b) ts
 

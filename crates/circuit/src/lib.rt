@@ -1,11 +1,20 @@
-// Gate lists of any length: their cost. When their wires come free is worked out in `timing`.
+// Gate lists: what they do and what they measure. This root has the weights (prices or durations) of gates and the cost of a list.
+// - `measures`: all measures of a list in one struct.
+// - `reversal`: a list taken backwards; laws only.
+// - `run`: running a list on a value, forwards and backwards.
+// - `timing`: ready times of the wires, and the depth.
+pub mod measures;
+pub mod reversal;
+pub mod run;
+pub mod timing;
+
 use gate::Kind;
 ghost use mathlib.Core.Path.{_≡_};
 ghost use Prim.Native.Nat.{_≤_, _+_};
 ghost use lib.ListN.{length};
 ghost use Rattle.circuit.specs.Measure.{weightFor, weightOf, cost};
 
-// A price or a duration for each kind of gate.
+// A price, or a duration, for each kind of gate.
 pub struct Weights {
     pub not: u8,
     pub cnot: u8,
@@ -13,6 +22,7 @@ pub struct Weights {
     pub cccnot: u8,
 }
 
+// The weight of a kind of gate.
 fn weight_for(weights: Weights, kind: Kind) -> u8
     ensures { λ r. ⌜ r ≡ weightFor weights kind ⌝ }
 {
@@ -24,7 +34,7 @@ fn weight_for(weights: Weights, kind: Kind) -> u8
     }
 }
 
-// The price or duration of a gate byte.
+// The weight of a gate byte.
 pub fn weight(weights: Weights, b: u8) -> u8
     ensures { λ r. ⌜ r ≡ weightOf weights b ⌝ }
 {
@@ -33,7 +43,7 @@ pub fn weight(weights: Weights, b: u8) -> u8
     weight_for(weights, kind)
 }
 
-// The cost of a list at these prices.
+// The cost of a list: the sum of the prices of its gates.
 pub fn cost(gates: &[u8], prices: Weights) -> u16
     requires { ⌜ length (now gates) ≤ 256 ⌝ }
     ensures { λ r. ⌜ r ≡ cost (weightOf prices) (now (gates .entry)) ⌝ }

@@ -18,10 +18,10 @@ use Rattle.logic.proofs.Below.{below}
 use Rattle.logic.proofs.Counts.{same-truth, all-below}
 use Rattle.logic.proofs.Bits.{bit-xor, bit-and, zero-bits}
 use Rattle.gate.specs.Gates.{lawful}
-use Rattle.running.specs.Run.{forwards}
-use Rattle.running.specs.Inner.{columnsAfter}
-use Rattle.running.proofs.Reversal.{rows-run}
-use Rattle.layouts.specs.Layouts.{Width, wireOf}
+use Rattle.circuit.specs.run.Run.{forwards}
+use Rattle.circuit.specs.run.Inner.{columnsAfter}
+use Rattle.circuit.proofs.run.Reversal.{rows-run}
+use Rattle.table.specs.layouts.Layouts.{Width, wireOf}
 use Rattle.table.specs.Rows.{careOf, valueOf, bitAgrees, rowAgrees, agrees, atZero, clean}
 use Rattle.table.proofs.Rows.{agrees-at, agrees-all}
 use Rattle.columns.specs.Wanted.{columnOf, rowBit, columnsOf, wantedOf, startColumns, misses, fits, met, allRows, dirt, tidy}

@@ -1,4 +1,4 @@
--- A way to finish: what the bounds of a search speak of.
+-- A way to finish: a gate list that leads from a state to the table. Every bound of the search is a law about it.
 use mathlib.Core.Path.{_≡_}
 use mathlib.Core.Bool.{true}
 use mathlib.Core.List.{List, List·Memᴰ}
@@ -6,13 +6,13 @@ use Prim.Native.Nat.{ℕ}
 use lib.ListN.{length}
 use Rattle.logic.specs.Lists.{allOf}
 use Rattle.gate.specs.Gates.{lawful}
-use Rattle.running.specs.Inner.{columnsAfter}
-use Rattle.layouts.specs.Layouts.{Width, layoutsFor}
+use Rattle.circuit.specs.run.Inner.{columnsAfter}
+use Rattle.table.specs.layouts.Layouts.{Width, layoutsFor}
 use Rattle.columns.specs.declared.Wanted.{Wanted}
 use Rattle.columns.specs.Wanted.{met, tidy}
 
--- a list of gates with at most k controls leads from these columns to columns that meet the wanted ones of n outputs under an allowed layout,
--- with the ancilla at 0
+-- a list of gates with at most k controls leads from these columns to columns that meet the wanted ones of n outputs under an allowed
+-- layout, with the ancilla at 0
 pub record Finish (k : ℕ) (t : Wanted) (n free : ℕ) (cs e : List ℕ) (p : ℕ) : Type 0 where
   pub width : Width n
   pub four : length (t .care) ≡ 4

@@ -1,4 +1,4 @@
--- The last arm of a match on a number: what is left when the arms before it do not fit.
+-- The last arm of a match on a number: which numbers are left when no earlier arm matches.
 use mathlib.Core.Path.{_≡_, refl}
 use Prim.Native.Nat.{ℕ, zero, suc, _≤_}
 use native.Mathlib.Omega.{arith}
@@ -12,7 +12,7 @@ five w l h three four = omega arith
 pub three : (k : ℕ) → 2 ≤ k → k ≤ 3 → (k ≡ 2 → ⊥) → k ≡ 3
 three k l h two = omega arith
 
--- what holds at 2 and at 3
+-- what holds for 2 and 3 holds for every number from 2 to 3
 pub two-three : (P : ℕ → Type 0) (k : ℕ) → 2 ≤ k → k ≤ 3 → P 2 → P 3 → P k
 two-three P zero l h p q = absurd (omega arith)
 two-three P (suc zero) l h p q = absurd (omega arith)

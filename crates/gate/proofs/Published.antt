@@ -1,5 +1,5 @@
--- Document 01's step is what source 003 prints, arm by arm: what a mask of at most three wires fires on is what its kind adds. On any value;
--- both look at its lowest five bits only, so 32 masks on 32 values tell it.
+-- Document 01's step is what source 003 prints, kind by kind: a gate fires exactly where its kind adds 1. Both look at the lowest five
+-- bits of a value only, so computing 32 masks on 32 values proves it for all values.
 use mathlib.Core.Path.{_≡_, refl, sym, ap, ap₂, _∙_}
 use mathlib.Core.Bool.{Bool, true, false}
 use Prim.Native.Nat.{ℕ, zero, suc, _*_, _/_, _%_, _^_, _≤_, _<_}
@@ -87,7 +87,7 @@ product-lt zero y hx hy = omega arith
 product-lt (suc zero) y hx hy = omega arith
 product-lt (suc (suc x)) y hx hy = absurd (omega arith)
 
--- an arm of the step: what it adds is what n controls add
+-- an arm of the code: it is the step if it adds what the kind with n controls adds
 pub arm : (b v x n r : ℕ) → x ≡ b → n ≤ 3 → ones (maskOf b) ≡ n → r ≡ bitXor v (added (kindFor n (maskOf b)) v * 2 ^ (x / 32)) → r ≡ step b v
 arm b v x n r e few h q =
     q
@@ -117,7 +117,7 @@ module _ (b : ℕ) (h : lawful 3 5 b ≡ true) where
   pub wires-inside : inside (gateOf b .kind) ≡ true
   wires-inside = both-left (inside (gateOf b .kind)) (allBelow 32 (rightBits b)) right
 
-  -- the step leaves in every wire the bit that is published
+  -- after the step every wire has the published bit
   pub bit-after : (v w : ℕ) → v < 32 → w < 5 → bitOf w (step b v) ≡ published b v w
   bit-after v w hv hw =
       eqb-true (bitOf w (step b v)) (published b v w)

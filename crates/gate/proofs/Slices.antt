@@ -1,4 +1,4 @@
--- Columns and values tell the same: bit x of column w after a step is bit w of row x's value after it.
+-- Columns and values agree: after a gate, bit x of wire w's column is bit w of row x's value.
 use mathlib.Core.Path.{_≡_, refl, sym, ap, ap₂, _∙_}
 use mathlib.Core.Bool.{Bool, true}
 use mathlib.Core.List.{List}
@@ -10,7 +10,7 @@ use lib.Dec.{eqb, ltb}
 use lib.Bits.{bitAnd, bitXor, and-zero-l}
 use lib.ListN.{length, getD, length-set}
 use lib.Seq.{getD-set-same, getD-set-other}
-use Rattle.logic.specs.Rules.{both, pick}
+use Rattle.logic.specs.Rules.{both}
 use Rattle.logic.specs.Bit.{bitOf}
 use Rattle.logic.proofs.Chain.{both-left, both-right}
 use Rattle.logic.proofs.Below.{below}

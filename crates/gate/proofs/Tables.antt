@@ -1,8 +1,8 @@
--- The gates of a table are exactly the lawful bytes, and the longest table has 75.
+-- The gates of a table are exactly the lawful bytes, and the longest table has 75 gates.
 use mathlib.Core.Path.{_≡_, refl, sym, ap, ap₂, _∙_}
 use mathlib.Core.Bool.{Bool, true}
 use mathlib.Core.List.{List, List·Memᴰ}
-use Prim.Native.Nat.{ℕ, _≤_, _<_}
+use Prim.Native.Nat.{ℕ, _≤_}
 use native.Mathlib.Omega.{arith}
 use borrow.Author.Tests.{leb-true}
 use lib.Dec.{leb}
@@ -48,7 +48,7 @@ all-fit = refl
 pub gates-most : (k w : ℕ) → k ≤ 3 → w ≤ 5 → length (gatesFor k w) ≤ 75
 gates-most k w hk hw = leb-true (length (gatesFor k w)) 75 (below 6 (fits k) (below 4 allFit all-fit k (omega arith)) w (omega arith))
 
--- what is read off the table of k and w, where these are known
+-- what is read off a table whose k and w are known
 pub table-at : (A : Type 0) (f : List ℕ → A) (k w k′ w′ : ℕ) (r : A) → k ≡ k′ → w ≡ w′ → r ≡ f (gatesFor k′ w′) → r ≡ f (gatesFor k w)
 table-at A f k w k′ w′ r hk hw e = e ∙ ap₂ (λ (j v : ℕ). f (gatesFor j v)) (sym hk) (sym hw)
 

@@ -1,11 +1,17 @@
-// A gate byte: its fields, whether it is lawful, its struct and kind.
+// Gates. A gate is one byte: the target wire in its high three bits, the mask of control wires in its low five. This root tests whether a
+// byte is lawful and decodes it into target and kind.
+// - `gate_tables`: the constant tables of lawful gates.
+// - `step`: one gate applied to a value of the wires.
+pub mod gate_tables;
+pub mod step;
+
 ghost use mathlib.Core.Path.{_≡_};
 ghost use Prim.Native.Nat.{_≤_, _<_};
 ghost use Rattle.gate.specs.Gates.{lawful, lowest, middle, highest, kindFor, gateOf};
 ghost use lib.Count.{ones};
 ghost use Rattle.logic.specs.Lists.{allOf};
 
-// What the controls make of a gate; the cases carry the control wires.
+// The kind of a gate, by its number of controls. Each case carries the control wires, lowest first.
 pub enum Kind {
     Not,
     Cnot(usize),
@@ -13,12 +19,13 @@ pub enum Kind {
     Cccnot(usize, usize, usize),
 }
 
+// A decoded gate.
 pub struct Gate {
     pub target: usize,
     pub kind: Kind,
 }
 
-// Whether the byte is a gate of at most `k` controls on `w` wires.
+// Whether the byte is a lawful gate on `w` wires with at most `k` controls.
 pub fn lawful(k: u32, w: usize, b: u8) -> bool
     requires { ⌜ w < 64 ⌝ }
     ensures { λ r. ⌜ r ≡ lawful k w b ⌝ }
@@ -34,7 +41,7 @@ pub fn lawful(k: u32, w: usize, b: u8) -> bool
     )
 }
 
-// Whether every byte of a list is such a gate.
+// Whether every byte of a list is a lawful gate on `w` wires with at most `k` controls.
 pub fn all_lawful(k: u32, w: usize, list: &[u8]) -> bool
     requires { ⌜ w < 64 ⌝ }
     ensures { λ r. ⌜ r ≡ allOf (lawful k w) (now (list .entry)) ⌝ }
@@ -49,7 +56,7 @@ pub fn all_lawful(k: u32, w: usize, list: &[u8]) -> bool
     true
 }
 
-// The lowest wire of a mask.
+// The lowest wire of a mask, or 8 if the mask is empty.
 pub fn lowest(m: u8) -> usize
     ensures { λ r. ⌜ r ≡ lowest m ⌝ }
     ensures { λ r. ⌜ r ≤ 8 ⌝ }
@@ -57,7 +64,7 @@ pub fn lowest(m: u8) -> usize
     u8::trailing_zeros(m) as usize
 }
 
-// The lowest wire of the mask without its lowest one.
+// The second lowest wire of a mask, which of three is the middle one; 8 if there is none.
 pub fn middle(m: u8) -> usize
     ensures { λ r. ⌜ r ≡ middle m ⌝ }
     ensures { λ r. ⌜ r ≤ 8 ⌝ }
@@ -65,7 +72,7 @@ pub fn middle(m: u8) -> usize
     if m == 0 { 8 } else { lowest(m & (m - 1)) }
 }
 
-// The highest wire of a mask.
+// The highest wire of a mask, or 0 if the mask is empty.
 pub fn highest(m: u8) -> usize
     ensures { λ r. ⌜ r ≡ highest m ⌝ }
 {
@@ -73,6 +80,7 @@ pub fn highest(m: u8) -> usize
     if z < 8 { 7 - z } else { 0 }
 }
 
+// The kind of a gate with the control mask `m`.
 fn kind_of(m: u8) -> Kind
     ensures { λ r. ⌜ r ≡ kindFor (ones m) m ⌝ }
 {
@@ -84,7 +92,7 @@ fn kind_of(m: u8) -> Kind
     }
 }
 
-// The gate that a byte stands for.
+// The gate that a byte encodes.
 pub fn decode(b: u8) -> Gate
     ensures { λ r. ⌜ r ≡ gateOf b ⌝ }
 {

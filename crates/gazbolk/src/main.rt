@@ -1,10 +1,23 @@
-// The program for people: its first word is a command, and the words after it are names of files; alone it says what it can do. A program
-// has no exit status here, so the first word of what it prints says how it went.
+// The program for people: its first word is a command, and the words after it are names of files. With no words it says what it can do. A
+// program has no exit status in Rattle, so the first word that it prints says how it went.
+//
+// - `arguments`: the words, the files that they name, and the usage.
+mod arguments;
+
+use commands::closest;
+use commands::compare;
+use commands::rewrite;
+use commands::search_files;
+use console::output;
+use printed::batch_parts;
+use printed::files;
+use printed::rewriting;
+use printed::verdict;
 ghost use Prim.Native.Nat.{_<_, _≤_};
 ghost use lib.ListN.{length};
-ghost use Rattle.batch_lines.specs.Parts.{batchParts};
+ghost use Rattle.printed.specs.batch_parts.Parts.{batchParts};
 
-// Does what the words after the program's name ask for, or says what can be asked. Several commands may stand there, with `then` between them.
+// Runs the commands that the words ask for, with `then` between them, one after another.
 fn main() {
     let count = arguments::few(os::arg_count());
     let mut at = run_command(0, count);
@@ -25,7 +38,8 @@ fn run_command(at: usize, count: usize) -> usize
     end
 }
 
-// Each command by its name and its number of words, the one before it among them; a library may be named last.
+// Runs the command of this name, if it has as many words as it takes, and else prints the usage. The count includes the word at `at`; two
+// commands may name a library last.
 fn dispatch(word: &[u8], at: usize, words: usize)
     requires { ⌜ at ≤ 1000000 ⌝ }
 {
@@ -120,40 +134,40 @@ fn rewrite(at: usize)
     }
 }
 
-// Judges the circuit of one open file for the job of another, and prints the verdict. As much of each is read as tells it.
+// Verifies the circuit of one open file for the job of another, and prints the verdict. No more of a file is read than decides it.
 fn print_verdict(job_file: i32, circuit_file: i32, named: bool, library_file: i32) {
     let mut job = io::buffer();
-    let n = arguments::read_part(true, job_file, rooms::job_room(), &mut job);
+    let n = arguments::read_part(true, job_file, files::job_room(), &mut job);
     let mut library = io::buffer();
-    let k = arguments::read_part(named, library_file, rooms::library_room(), &mut library);
+    let k = arguments::read_part(named, library_file, files::library_room(), &mut library);
     let mut circuit = io::large_buffer();
-    let m = arguments::read_part(true, circuit_file, rooms::circuit_room(), &mut circuit);
+    let m = arguments::read_part(true, circuit_file, files::circuit_room(), &mut circuit);
     let mut out = [0u8; 128];
-    let size = verdicts::verify_text(&job[..n], named, &library[..k], &circuit[..m], &mut out);
-    arguments::say(&out[..size]);
+    let size = verdict::verify_text(&job[..n], named, &library[..k], &circuit[..m], &mut out);
+    output::say(&out[..size]);
 }
 
-// Searches for the circuit of the job in an open file, and prints what is found. As much of each file is read as tells it.
+// Searches for the circuit of the job in an open file, and prints what is found.
 fn print_finding(job_file: i32, named: bool, library_file: i32) {
     let mut job = io::buffer();
-    let n = arguments::read_part(true, job_file, rooms::job_room(), &mut job);
+    let n = arguments::read_part(true, job_file, files::job_room(), &mut job);
     let mut library = io::buffer();
-    let k = arguments::read_part(named, library_file, rooms::library_room(), &mut library);
+    let k = arguments::read_part(named, library_file, files::library_room(), &mut library);
     let mut out = [0u8; 128];
-    let size = files::search_text(&job[..n], named, &library[..k], &mut out);
-    arguments::say(&out[..size]);
+    let size = search_files::search_text(&job[..n], named, &library[..k], &mut out);
+    output::say(&out[..size]);
 }
 
-// Prints what a batch in an open file comes to. As much of it is read as tells it.
+// Searches for the circuits of the batch in an open file, and prints what is found.
 fn print_batch(file: i32) {
     let mut jobs = io::buffer();
-    let n = arguments::read_part(true, file, batch_lines::batch_room(), &mut jobs);
+    let n = arguments::read_part(true, file, batch_parts::batch_room(), &mut jobs);
     print_parts(&jobs[..n]);
 }
 
-// Each part is printed before the next job is looked at, so that a morning's work shows how far it is.
+// Prints each part before the next job is searched, so that a long batch shows how far it is.
 fn print_parts(jobs: &[u8]) {
-    let count = batch_lines::batch_parts(jobs);
+    let count = batch_parts::batch_parts(jobs);
     let mut i = 0;
     while i < count {
         print_part(jobs, i);
@@ -165,37 +179,37 @@ fn print_part(jobs: &[u8], i: usize)
     requires { ⌜ i < length (batchParts (now jobs)) ⌝ }
 {
     let mut out = [0u8; 128];
-    let size = files::batch_part(jobs, i, &mut out);
-    arguments::say(&out[..size]);
+    let size = search_files::batch_part(jobs, i, &mut out);
+    output::say(&out[..size]);
 }
 
-// Compares the jobs in two open files, and prints what that comes to. As much of each is read as tells it.
+// Compares the jobs in two open files, and prints the difference and both circuits.
 fn print_change(old_file: i32, new_file: i32) {
     let mut old = io::buffer();
-    let n = arguments::read_part(true, old_file, printing::job_room(), &mut old);
+    let n = arguments::read_part(true, old_file, compare::job_room(), &mut old);
     let mut new = io::buffer();
-    let m = arguments::read_part(true, new_file, printing::job_room(), &mut new);
+    let m = arguments::read_part(true, new_file, compare::job_room(), &mut new);
     let mut out = [0u8; 256];
-    let size = printing::compare_text(&old[..n], &new[..m], &mut out);
-    arguments::say(&out[..size]);
+    let size = compare::compare_text(&old[..n], &new[..m], &mut out);
+    output::say(&out[..size]);
 }
 
-// Searches for the closest circuit of the job in an open file, and prints it. As much of the file is read as tells it.
+// Searches for the closest circuit of the job in an open file, and prints it.
 fn print_closest(job_file: i32) {
     let mut job = io::buffer();
-    let n = arguments::read_part(true, job_file, closeness::job_room(), &mut job);
+    let n = arguments::read_part(true, job_file, closest::job_room(), &mut job);
     let mut out = [0u8; 128];
-    let size = closeness::closest_text(&job[..n], &mut out);
-    arguments::say(&out[..size]);
+    let size = closest::closest_text(&job[..n], &mut out);
+    output::say(&out[..size]);
 }
 
-// Rewrites the list in an open file, and prints what that comes to. As much of it is read as tells it.
+// Rewrites the list of gates in an open file, and prints both lists' sizes and costs and the new list.
 fn print_rewriting(file: i32) {
     let mut head = [0u8; 5];
     let n = io::read_full(file, &mut head);
     let mut list = io::large_buffer();
-    let m = arguments::read_part(true, file, rewrite_lines::list_room(), &mut list);
+    let m = arguments::read_part(true, file, rewriting::list_room(), &mut list);
     let mut out = [0u8; 8300];
-    let size = printing::rewrite_text(&head[..n], &mut list[..m], &mut out);
-    arguments::say(&out[..size]);
+    let size = rewrite::rewrite_text(&head[..n], &mut list[..m], &mut out);
+    output::say(&out[..size]);
 }

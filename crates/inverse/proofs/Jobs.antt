@@ -1,7 +1,7 @@
 -- A job and its inverse are mirrored problems, over the same gates at the same prices and durations.
 use mathlib.Core.Path.{_≡_, refl, sym, ap, _∙_, subst}
 use mathlib.Core.Bool.{true}
-use mathlib.Core.List.{List, [], _∷_, map, reverse, List·Memᴰ, List·Memᴰ·eq-of-singleton}
+use mathlib.Core.List.{List, [], _∷_, reverse, List·Memᴰ, List·Memᴰ·eq-of-singleton}
 use Prim.Native.Nat.{ℕ, _+_, _^_, _≤_, _<_}
 use native.Mathlib.Nat.{add-zero}
 use native.Mathlib.Omega.{arith}
@@ -11,15 +11,15 @@ use Rattle.logic.specs.Lists.{allOf}
 use Rattle.logic.proofs.Chain.{both-right}
 use Rattle.logic.proofs.Members.{place-of, among-all}
 use Rattle.gate.specs.Gates.{lawful}
-use Rattle.running.specs.Run.{forwards}
-use Rattle.reversal.proofs.Runs.{runs-back, lawful-reverse}
-use Rattle.layouts.specs.Layouts.{plain, layoutsFor}
+use Rattle.circuit.specs.run.Run.{forwards}
+use Rattle.circuit.proofs.reversal.Runs.{runs-back, lawful-reverse}
+use Rattle.table.specs.layouts.Layouts.{plain, layoutsFor}
 use Rattle.table.specs.Rows.{valueOf, realizes}
-use Rattle.layouts.proofs.Named.{fixed}
-use Rattle.fields.specs.Jobs.{mostControls, dataWires, wires, freeLayout, rows}
+use Rattle.table.proofs.layouts.Named.{fixed}
+use Rattle.record.specs.job_fields.Jobs.{mostControls, dataWires, wires, freeLayout, rows}
 use Rattle.record.proofs.Kept.{sound-job, wires-within}
-use Rattle.permuting.specs.Values.{values, full, distinct, permutes}
-use Rattle.odd_tables.proofs.Permutation.{permutation}
+use Rattle.parity.specs.Parity.{values, full, distinct, permutes}
+use Rattle.parity.proofs.odd_tables.Permutation.{permutation}
 use Rattle.problem.specs.Demand.{Admitted}
 use Rattle.outcomes.specs.Outcomes.{GateSet, problemOver}
 use Rattle.outcomes.specs.Inner.{Lawfuls}

@@ -15,19 +15,18 @@ use Rattle.logic.specs.Lists.{allOf, numbersFrom}
 use Rattle.logic.proofs.Chain.{both-right, both-true, rule-kept}
 use Rattle.logic.proofs.Below.{below}
 use Rattle.logic.proofs.Members.{member-at, place-of, all-members}
-use Rattle.layouts.specs.Layouts.{Width}
-use Rattle.table.specs.Rows.{careOf, valueOf, rowOk}
-use Rattle.fields.specs.Jobs.{longer, dataWires, ancillas, freeLayout, gateLimit, costLimit, depthLimit, weightsAt, prices, durations, rows}
+use Rattle.table.specs.layouts.Layouts.{Width}
+use Rattle.table.specs.Rows.{careOf, valueOf, rowOk, rowOf}
+use Rattle.record.specs.job_fields.Jobs.{longer, dataWires, ancillas, freeLayout, gateLimit, costLimit, depthLimit, weightsAt, prices, durations, rows}
 use Rattle.record.specs.JobRules.{jobLengthOk, sizeOk, headOk, limitOk, durationsOk, rowsOk, jobCode}
 use Rattle.record.specs.Inner.{jobRest}
 use Rattle.record.proofs.Kept.{sound-job}
-use Rattle.permuting.specs.Values.{values, fullRow, full, distinct, permutes}
-use Rattle.odd_tables.proofs.Permutation.{permutation}
+use Rattle.parity.specs.Parity.{values, fullRow, full, distinct, permutes}
+use Rattle.parity.proofs.odd_tables.Permutation.{permutation}
 use Rattle.outcomes.specs.Outcomes.{searchOf}
-use Rattle.entries.specs.Library.{libraryCode}
-use Rattle.libraries.specs.Calls.{searchWith}
-use Rattle.permutations.specs.Orders.{rowOf}
-use Rattle.permutations.proofs.Lists.{row-of-at}
+use Rattle.library.specs.entries.Library.{libraryCode}
+use Rattle.library.specs.judge.Calls.{searchWith}
+use Rattle.parity.proofs.Distinct.{row-of-at}
 use Rattle.inverse.specs.Mirror.{Alike}
 use Rattle.inverse.specs.Inverse.{Permutation, Inverse, valueAt, inverseRow, inverseRows, inverseJob}
 use Rattle.inverse.proofs.Tables.{fullOf, wide, row-in, value-low}

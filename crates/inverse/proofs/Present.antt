@@ -1,13 +1,12 @@
--- Not without instances: PRESENT's S-box (002, Table 1) is such a permutation, and its inverse, row by row, is the table that decrypts.
+-- An instance: PRESENT's S-box (002, Table 1) is such a permutation, and its inverse, row by row, is the table that decrypts.
 use mathlib.Core.Path.{_≡_, refl}
 use mathlib.Core.List.{List, [], _∷_, map}
 use Prim.Native.Nat.{ℕ, _+_}
 use Rattle.logic.specs.Lists.{allOf}
-use Rattle.table.specs.Rows.{rowOk}
-use Rattle.fields.specs.Jobs.{longer, dataWires, ancillas, freeLayout, gateLimit, durations}
+use Rattle.table.specs.Rows.{rowOk, rowOf}
+use Rattle.record.specs.job_fields.Jobs.{longer, dataWires, ancillas, freeLayout, gateLimit, durations}
 use Rattle.record.specs.JobRules.{jobLengthOk, sizeOk, headOk, limitOk, durationsOk, rowsOk, jobCode}
-use Rattle.permuting.specs.Values.{full, distinct, permutes}
-use Rattle.permutations.specs.Orders.{rowOf}
+use Rattle.parity.specs.Parity.{full, distinct, permutes}
 use Rattle.inverse.specs.Inverse.{Permutation, Inverse, inverseJob}
 use Rattle.inverse.proofs.Made.{inverse-is}
 

@@ -9,11 +9,11 @@ use native.Mathlib.Omega.{arith}
 use lib.ListN.{length}
 use Rattle.logic.specs.Lists.{Among}
 use Rattle.circuit.specs.Measure.{cost, depth}
-use Rattle.reversal.proofs.Lists.{among-reverse}
-use Rattle.reversal.proofs.Runs.{cost-reverse, gates-reverse}
-use Rattle.reversal.proofs.Depth.{depth-reverse}
-use Rattle.choice.specs.Choices.{Choice, before}
-use Rattle.choice.proofs.Order.{lex-true}
+use Rattle.circuit.proofs.reversal.Lists.{among-reverse}
+use Rattle.circuit.proofs.reversal.Runs.{cost-reverse, gates-reverse}
+use Rattle.circuit.proofs.reversal.Depth.{depth-reverse}
+use Rattle.problem.specs.order.Choices.{Choice, before}
+use Rattle.problem.proofs.order.Order.{lex-true}
 use Rattle.problem.specs.Problems.{Problem, choiceOf, firstGood}
 use Rattle.problem.specs.Demand.{Solves, Winner}
 use Rattle.problem.proofs.Facts.{found-is, none-is}

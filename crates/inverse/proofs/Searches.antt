@@ -12,17 +12,18 @@ use Rattle.logic.specs.Rules.{pick, rule}
 use Rattle.logic.specs.Answers.{Answer, refused, answered}
 use Rattle.gate.specs.Gates.{gatesFor}
 use Rattle.circuit.specs.Measure.{weightOf}
-use Rattle.measures.specs.Measures.{measuresOf}
-use Rattle.choice.specs.Choices.{Choice}
+use Rattle.circuit.specs.measures.Measures.{measuresOf}
+use Rattle.problem.specs.order.Choices.{Choice}
 use Rattle.problem.specs.Problems.{choiceOf, firstGood}
 use Rattle.problem.proofs.Facts as Demand
-use Rattle.outcomes.specs.Outcomes.{GateSet, ownSet, problemOver, Found, outcomeOf, searchOver, searchCode, searchOf}
+use Rattle.outcomes.specs.Outcomes.{GateSet, ownSet, problemOver, Found, outcomeOf, searchOver, searchOf}
+use Rattle.record.specs.pair_codes.Codes.{searchCode}
 use Rattle.outcomes.specs.Inner.{Lawfuls}
 use Rattle.outcomes.proofs.Facts as Search
-use Rattle.entries.specs.Library.{entriesOf, entriesOk, librarySizeOk, libraryCode}
-use Rattle.libraries.specs.Calls.{jobWithCode, setIn, searchWithCode, searchWith}
-use Rattle.libraries.proofs.Sound.{sound-library, gates-lawful, searchable}
-use Rattle.libraries.proofs.Searched.{answers-with}
+use Rattle.library.specs.entries.Library.{entriesOf, entriesOk, librarySizeOk, libraryCode}
+use Rattle.library.specs.judge.Calls.{jobWithCode, setIn, searchWithCode, searchWith}
+use Rattle.library.proofs.judge.Sound.{sound-library, gates-lawful, searchable}
+use Rattle.library.proofs.judge.Searched.{answers-with}
 use Rattle.inverse.specs.Mirror.{Three, three, firstThree, answeredThree, Alike}
 use Rattle.inverse.specs.Inverse.{Inverse}
 use Rattle.inverse.proofs.Problems.{first-same}

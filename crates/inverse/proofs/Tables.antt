@@ -17,14 +17,14 @@ use Rattle.logic.proofs.Chain.{both-left, both-right, implied}
 use Rattle.logic.proofs.Below.{below}
 use Rattle.logic.proofs.Fold.{all-at}
 use Rattle.gate.specs.Gates.{lawful}
-use Rattle.running.specs.Run.{forwards}
-use Rattle.running.proofs.Reversal.{stays}
-use Rattle.layouts.specs.Layouts.{Width, plain}
+use Rattle.circuit.specs.run.Run.{forwards}
+use Rattle.circuit.proofs.run.Reversal.{stays}
+use Rattle.table.specs.layouts.Layouts.{Width, plain}
 use Rattle.table.specs.Rows.{careOf, valueOf, rowOk, bitAgrees, rowAgrees, agrees, realizes}
 use Rattle.table.proofs.Rows.{agrees-at, agrees-all, bare-realizes}
-use Rattle.fields.specs.Jobs.{dataWires, rows}
+use Rattle.record.specs.job_fields.Jobs.{dataWires, rows}
 use Rattle.record.proofs.Kept.{SoundJob, sound-job}
-use Rattle.permuting.specs.Values.{fullRow, full, values, distinct, permutes}
+use Rattle.parity.specs.Parity.{fullRow, full, values, distinct, permutes}
 use Rattle.inverse.specs.Inverse.{Permutation, valueAt}
 
 -- a row with the full mask and the value t

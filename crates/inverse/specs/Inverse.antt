@@ -6,11 +6,10 @@ use Prim.Native.Nat.{ℕ, _+_, _-_, _*_, _^_, _<_}
 use lib.ListN.{getD, take}
 use Rattle.logic.specs.Rules.{pick}
 use Rattle.logic.specs.Lists.{numbersFrom}
-use Rattle.table.specs.Rows.{valueOf}
+use Rattle.table.specs.Rows.{valueOf, rowOf}
 use Rattle.record.specs.JobRules.{jobCode}
-use Rattle.fields.specs.Jobs.{longer, dataWires, ancillas, freeLayout, gateLimit, costLimit, depthLimit, prices, durations, rows}
-use Rattle.permuting.specs.Values.{values, permutes}
-use Rattle.permutations.specs.Orders.{rowOf}
+use Rattle.record.specs.job_fields.Jobs.{longer, dataWires, ancillas, freeLayout, gateLimit, costLimit, depthLimit, prices, durations, rows}
+use Rattle.parity.specs.Parity.{values, permutes}
 
 -- "a full permutation .. in [a] well-formed [job] with m = 0, fixed placing"
 pub record Permutation (job : List ℕ) : Type 0 where

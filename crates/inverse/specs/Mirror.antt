@@ -1,4 +1,5 @@
--- Two problems of which each asks for the other's lists backwards, and what is compared of what they find.
+-- Mirrored problems: what a list does for the one, the list backwards does for the other. And the three numbers in which what they find is
+-- compared.
 use mathlib.Core.Path.{_≡_}
 use mathlib.Core.Bool.{true}
 use mathlib.Core.Logic.{_⊎_}
@@ -6,12 +7,13 @@ use mathlib.Core.List.{List, reverse}
 use mathlib.Core.Option.{Option, none, some}
 use Prim.Native.Nat.{ℕ}
 use Rattle.logic.specs.Answers.{Answer, refused, answered}
-use Rattle.choice.specs.Choices.{Choice}
+use Rattle.problem.specs.order.Choices.{Choice}
 use Rattle.problem.specs.Problems.{Problem}
 use Rattle.problem.specs.Demand.{Admitted}
 use Rattle.outcomes.specs.Outcomes.{Found}
 
--- alike but for what is asked for, and there a list realizes the one exactly where it realizes the other backwards
+-- two problems that differ only in the table: a list realizes the table of the one exactly where the list backwards realizes that of the
+-- other
 pub record Mirrored (P Q : Problem) : Type 0 where
   pub same-gates : P .gates ≡ Q .gates
   pub same-layouts : P .layouts ≡ Q .layouts
@@ -29,18 +31,20 @@ pub record Three : Type 0 where
   pub gates : ℕ
   pub depth : ℕ
 
--- those of a choice, and of the first good one if there is one
+-- the three numbers of a choice
 abbrev pub three : Choice → Three
 three c = record { cost = c .cost; gates = c .gates; depth = c .depth }
 
+-- the three numbers of the first good choice, if there is one
 abbrev pub firstThree : Option Choice → Option Three
 firstThree none = none
 firstThree (some c) = some (three c)
 
--- those of what a search found, and those that it answers or its refusal
+-- the three numbers of what a search found
 abbrev pub foundThree : Found → Three
 foundThree f = record { cost = f .measures .cost; gates = f .measures .gates; depth = f .measures .depth }
 
+-- the three numbers of what a search answers, or its refusal
 abbrev pub answeredThree : Answer Found → Answer Three
 answeredThree (refused code) = refused code
 answeredThree (answered f) = answered (foundThree f)

@@ -1,4 +1,4 @@
--- An answer by its code: which one it is, and what an answer says of the code.
+-- An answer made from a code: which case it is, and what each case says of the code.
 use mathlib.Core.Path.{_≡_}
 use Prim.Native.Nat.{ℕ}
 use native.Mathlib.Decide.{ℕ-discrete}

@@ -18,7 +18,7 @@ set-at l i a w h = by-place (ℕ-discrete w i)
     by-place (yes e) = rw (eq-eqb w i e, e) (getD-set-same l i a 0 (rw e at h))
     by-place (no n) = rw (ne-eqb w i n) (getD-set-other l i w a 0 n)
 
--- a write, as a choice at each of the five places
+-- a write to one of five cells, as a choice at each cell
 pub set-five : (l : List ℕ) (i x : ℕ) → length l ≡ 5
     → pick (eqb i 0) x (getD l 0 0)
     ∷ pick (eqb i 1) x (getD l 1 0)

@@ -1,4 +1,4 @@
--- What a joined test says of its parts, and what a list of rules that gives 0 says of each rule.
+-- Tests joined by `both`, `either` and `implies`, by their parts; and lists of rules, by the code that they give.
 use mathlib.Core.Path.{_≡_, refl, sym}
 use mathlib.Core.Logic.{_⊎_, inl, inr}
 use mathlib.Core.Bool.{Bool, true, false, false≢true}
@@ -46,7 +46,7 @@ pub both-second : (a b : Bool) → b ≡ false → both a b ≡ false
 both-second true b h = h
 both-second false b h = refl
 
--- a rule that cannot hold fails
+-- a test that cannot be true is false
 pub not-so : (a : Bool) → (a ≡ true → ⊥) → a ≡ false
 not-so true h = absurd (h refl)
 not-so false h = refl
@@ -59,7 +59,7 @@ pub rule-kept : (kept : Bool) (code rest : ℕ) → 0 < code → rule kept code 
 rule-kept true code rest p h = (refl, h)
 rule-kept false code rest p h = absurd (omega arith)
 
--- a number that no rule of a list has, the list does not give
+-- a list of rules gives no number that is not the code of one of its rules
 pub rule-never : (n : ℕ) (kept : Bool) (code rest : ℕ) → (code ≡ n → ⊥) → (rest ≡ n → ⊥) → rule kept code rest ≡ n → ⊥
 rule-never n true code rest c r h = r h
 rule-never n false code rest c r h = c h

@@ -1,4 +1,4 @@
--- Tests of all numbers below a bound: how many of them hold, and what it says that all do, or none.
+-- Counting the numbers below a bound that pass a test: when all pass, when none does, and how counts compare.
 use mathlib.Core.Path.{_≡_, refl, sym, ap, _∙_}
 use mathlib.Core.Logic.{_⊎_, ⊎-elim}
 use mathlib.Core.Bool.{Bool, true, false, false≢true}
@@ -48,7 +48,7 @@ module _ (f : ℕ → Bool) where
   count-le zero = omega arith
   count-le (suc n) = omega (arith, bit-le (f n), count-le n)
 
--- where one of two tests holds wherever f does, their counts add up to f's at least
+-- if one of g and h holds wherever f does, the counts of g and h add up to at least that of f
 module _ (f g h : ℕ → Bool) where
   part : (a b c : Bool) → (a ≡ true → (b ≡ true) ⊎ (c ≡ true)) → bit a ≤ bit b + bit c
   part false b c i = omega arith

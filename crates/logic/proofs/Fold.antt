@@ -1,4 +1,4 @@
--- Folds of a list by what is left of it: what a loop that has passed i elements still owes, and what it owes at the end.
+-- Folds for loops: what remains to be computed when a loop over a list has passed i elements, one element later, and at the end.
 use mathlib.Core.Path.{_≡_, refl, sym, _∙_}
 use mathlib.Core.Bool.{Bool, true, false}
 use mathlib.Core.List.{List, [], _∷_, _++_}
@@ -17,7 +17,7 @@ module _ {A : Type 0} (f : A → Bool) where
   unfolding allOf
   all-more l i d h = rw (add-one, drop-cons l i d h)
 
-  -- the same for a test whose result is known
+  -- one element later, where the result of its test is known
   pub all-turn : (t : Bool) (l : List A) (i : ℕ) (d : A)
       → i < length l
       → f (getD l i d) ≡ t
@@ -28,8 +28,8 @@ module _ {A : Type 0} (f : A → Bool) where
   unfolding allOf
   all-done l i h = rw (drop-of-length-le l h)
 
-  -- a loop that tests one element after the other, and still owes the test of those from i on: it stops at one that fails, goes on past
-  -- one that holds, and has tested all at the end
+  -- a loop that tests one element after another, with the elements from i on still to be tested: it stops at one that fails, goes on
+  -- past one that passes, and at the end has tested all
   module _ (l : List A) (i : ℕ) (d : A) (owed : allOf f (drop i l) ≡ allOf f l) where
     pub all-stop : i < length l → f (getD l i d) ≡ false → false ≡ allOf f l
     all-stop h e = sym (all-turn false l i d h e) ∙ owed

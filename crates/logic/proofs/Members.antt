@@ -1,4 +1,4 @@
--- Which elements a list has: a test of all, a choice of some, a range, and a list of elements of another.
+-- Membership: in lists of which all elements pass a test, in filtered lists, in ranges, and in lists made of the elements of another.
 use mathlib.Core.Path.{_≡_, refl, sym, ap, _∙_}
 use mathlib.Core.Bool.{Bool, true, false, false≢true}
 use mathlib.Core.Logic.{_⊎_, inl, inr, ⊎-elim}
@@ -40,7 +40,7 @@ module _ (f : ℕ → Bool) where
   all-members [] h = refl
   all-members (x ∷ l) h = both-true (h x (List·Memᴰ.List·Memᴰ·head refl)) (all-members l (λ a m. h a (List·Memᴰ.List·Memᴰ·tail m)))
 
-  -- one step of a choice
+  -- one element of a filtered list
   kept : (l : List ℕ) (x b : ℕ) (t : Bool) → f x ≡ t
       → (List·Memᴰ b (keepOnly f l) → (f b ≡ true) × List·Memᴰ b l)
       → List·Memᴰ b (pick t (x ∷ keepOnly f l) (keepOnly f l))
@@ -82,7 +82,7 @@ numbers-at zero k i d h = absurd (not-suc-le-zero h)
 numbers-at (suc n) k zero d h = omega arith
 numbers-at (suc n) k (suc i) d h = omega (arith, numbers-at n (suc k) i d (le-of-suc-le-suc h))
 
--- a list by its elements
+-- a list is the list of its elements by index
 spelled-from : (l : List ℕ) (n i : ℕ) → i + n ≡ length l → drop i l ≡ map (λ j. getD l j 0) (numbersFrom i n)
 spelled-from l zero i h = let k : length l ≤ i = omega arith in drop-of-length-le l k
 spelled-from l (suc n) i h = drop-cons l i 0 (omega arith) ∙ ap (λ (r : List ℕ). getD l i 0 ∷ r) (spelled-from l n (suc i) (omega arith))
@@ -106,6 +106,6 @@ module _ {l : List ℕ} where
   pub among-append : (d e : List ℕ) → Among l d → Among l e → Among l (d ++ e)
   among-append d e v w h m = ⊎-elim (λ (p : List·Memᴰ h d). v h p) (λ (p : List·Memᴰ h e). w h p) (List·Memᴰ·append-cases d m)
 
--- a test of all elements of one list holds of the lists made of them
+-- a test that holds for all elements of a list holds for all elements of a list made of them
 pub among-all : (f : ℕ → Bool) (l e : List ℕ) → ((g : ℕ) → List·Memᴰ g l → f g ≡ true) → Among l e → allOf f e ≡ true
 among-all f l e h w = all-members f e (λ g m. h g (w g m))

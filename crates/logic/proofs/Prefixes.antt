@@ -1,4 +1,4 @@
--- The first elements of a list in place of the list.
+-- When a function of a list needs only its first elements.
 use mathlib.Core.Path.{_≡_, refl, sym, ap, _∙_}
 use mathlib.Core.Bool.{Bool, true, false}
 use mathlib.Core.List.{List}
@@ -9,11 +9,11 @@ use lib.Dec.{leb}
 use lib.ListN.{length, take}
 use lib.Seq.{take-all, length-take-le}
 
--- a prefix that is cut off is as long as was asked for
+-- the prefix of a list that is longer than `room` has length `room`
 pub cut-length : (room : ℕ) (l : List ℕ) → room < length l → length (take room l) ≡ room
 cut-length room l h = length-take-le room l (omega arith)
 
--- what is the same for a prefix of a long list as for the list is the same for every list
+-- if f gives the same for a list longer than `room` as for its prefix, it does so for every list: a shorter one is its own prefix
 module _ {A : Type 0} (f : List ℕ → A) (room : ℕ) (same : (l : List ℕ) → room < length l → f (take room l) ≡ f l) where
   pub any-length : (l : List ℕ) → f (take room l) ≡ f l
   any-length l = by-length (leb (length l) room) refl
@@ -22,7 +22,7 @@ module _ {A : Type 0} (f : List ℕ → A) (room : ℕ) (same : (l : List ℕ) �
       by-length true e = ap f (take-all room l (leb-true (length l) room e))
       by-length false e = same l (leb-false (length l) room e)
 
--- what long lists have in common is told by a prefix that is long too
+-- if f gives the same for all lists longer than `long`, a prefix that is longer than `long` gives what the list gives
 module _ {A : Type 0} (f : List ℕ → A) (a : A) (long : ℕ) (common : (l : List ℕ) → long < length l → f l ≡ a) where
   pub told-by : (room : ℕ) → long < room → (l : List ℕ) → f (take room l) ≡ f l
   told-by room h =

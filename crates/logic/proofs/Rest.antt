@@ -1,4 +1,4 @@
--- What is left of a list from a place on, as a part of it or, past its end, as an empty part.
+-- The rest of a list from an index on: as the slice up to the end or, past the end, as an empty slice.
 use mathlib.Core.Path.{_≡_, sym}
 use mathlib.Core.List.{List}
 use Prim.Native.Nat.{ℕ, _-_, _<_}

@@ -1,7 +1,8 @@
--- XOR as a sum: it associates, a vector cancels itself, and restricting to rows distributes over it. Numbers with the same bits are equal.
+-- XOR as addition of bit vectors: it is associative and commutative, a vector cancels itself, and AND distributes over it. Numbers
+-- with the same bits are equal.
 use mathlib.Core.Path.{_≡_, refl, sym, ap, ap₂, _∙_}
 use mathlib.Core.Bool.{Bool, true}
-use Prim.Native.Nat.{ℕ, zero, suc, _+_, _/_, _%_, _^_, _≤_, _<_}
+use Prim.Native.Nat.{ℕ, zero, suc, _+_, _/_, _≤_, _<_}
 use native.Mathlib.Omega.{arith}
 use borrow.Author.Tests.{eqb-true}
 use lib.Bits.{bitAnd, bitXor, and-comm, xor-comm, xor-self, xor-zero-r}
@@ -71,18 +72,18 @@ and-assoc a b c =
     ∙ ap (bitAnd (bitOf x a)) (sym (bit-and x b c))
     ∙ sym (bit-and x a (bitAnd b c)))
 
--- the last two of three change places
+-- the last two of three terms exchanged
 pub xor-swap : (a b c : ℕ) → bitXor (bitXor a b) c ≡ bitXor (bitXor a c) b
 xor-swap a b c = xor-assoc a b c ∙ ap (bitXor a) (xor-comm b c) ∙ sym (xor-assoc a c b)
 
 pub xor-cancel : (a b : ℕ) → bitXor (bitXor a b) b ≡ a
 xor-cancel a b = xor-assoc a b b ∙ ap (bitXor a) (xor-self b) ∙ xor-zero-r a
 
--- what is in both terms drops out
+-- a common term cancels
 pub xor-both : (a b c : ℕ) → bitXor (bitXor a c) (bitXor b c) ≡ bitXor a b
 xor-both a b c = sym (xor-assoc (bitXor a c) b c) ∙ ap (λ n. bitXor n c) (xor-swap a c b) ∙ xor-cancel (bitXor a b) c
 
--- equal where their XOR is nothing
+-- numbers whose XOR is 0 are equal
 pub xor-none : (a b : ℕ) → bitXor a b ≡ 0 → a ≡ b
 xor-none a b h = sym (xor-cancel a b) ∙ ap (λ n. bitXor n b) h
 
@@ -93,7 +94,7 @@ Linear f = (a b : ℕ) → f (bitXor a b) ≡ bitXor (f a) (f b)
 pub linear-zero : (f : ℕ → ℕ) → Linear f → f 0 ≡ 0
 linear-zero f h = h 0 0 ∙ xor-self (f 0)
 
--- what is added to c where k cares, so that c becomes v there, is where they differ
+-- if XOR with f turns c into v on the bits of k, then f is, on those bits, where c and v differ
 pub xor-mends : (k c f v : ℕ) → bitAnd (bitXor (bitXor c f) v) k ≡ 0 → bitAnd f k ≡ bitAnd (bitXor c v) k
 xor-mends k c f v h =
     and-comm f k

@@ -1,4 +1,4 @@
--- Bits as the numbers 0 and 1.
+-- The bits of a number, each 0 or 1.
 use Prim.Native.Nat.{ℕ, _/_, _%_, _^_}
 
 -- bit i of v; bit 0 is the least significant

@@ -1,20 +1,20 @@
--- Lists from the head: a test of every element, a sum, and a state carried along or back.
+-- Lists: a test of every element, a filter, a range of numbers, a sum, and a state carried through from either end.
 use mathlib.Core.Bool.{Bool, true}
 use mathlib.Core.List.{List, [], _∷_, List·Memᴰ}
 use Prim.Native.Nat.{ℕ, zero, suc, _+_}
 use Rattle.logic.specs.Rules.{both, pick}
 
--- f holds at each element
+-- f holds for every element
 unfoldable pub allOf : {A : Type 0} → (A → Bool) → List A → Bool
 allOf f [] = true
 allOf f (x ∷ xs) = both (f x) (allOf f xs)
 
--- the elements at which f holds, in their order
+-- the elements for which f holds, in their order
 abbrev pub keepOnly : {A : Type 0} → (A → Bool) → List A → List A
 keepOnly f [] = []
 keepOnly f (x ∷ xs) = pick (f x) (x ∷ keepOnly f xs) (keepOnly f xs)
 
--- the n numbers from i on, rising
+-- i, i + 1, and so on: n numbers
 abbrev pub numbersFrom : ℕ → ℕ → List ℕ
 numbersFrom i zero = []
 numbersFrom i (suc n) = i ∷ numbersFrom (suc i) n
@@ -24,16 +24,16 @@ unfoldable pub total : {A : Type 0} → (A → ℕ) → List A → ℕ
 total f [] = 0
 total f (x ∷ xs) = f x + total f xs
 
--- the state after the steps of the first element, the second, and so on to the last
+-- the state after one step for each element, from the first to the last
 unfoldable pub along : {A S : Type 0} → (A → S → S) → List A → S → S
 along f [] s = s
 along f (x ∷ xs) s = along f xs (f x s)
 
--- the state after the steps of the last element, the one before it, and so on to the first
+-- the state after one step for each element, from the last to the first
 unfoldable pub back : {A S : Type 0} → (A → S → S) → List A → S → S
 back f [] s = s
 back f (x ∷ xs) s = f x (back f xs s)
 
--- every element of e is one of l
+-- every element of e is an element of l
 abbrev pub Among : List ℕ → List ℕ → Type 0
 Among l e = (x : ℕ) → List·Memᴰ x e → List·Memᴰ x l

@@ -1,4 +1,4 @@
--- Words of a text, written as words.
+-- Words of a text: a definition can give them as string literals in place of lists of bytes.
 use mathlib.Core.List.{List, [], _∷_}
 use Prim.Native.Nat.{ℕ}
 use Prim.Native.Char.{code}

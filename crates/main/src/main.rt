@@ -1,6 +1,7 @@
+// The program: reads one job from standard input and prints a line, the cheapest circuit or the number of a refusal.
+use commands::program;
 use libc::STDIN_FILENO;
 
-// Reads one job from standard input and prints its line.
 fn main() {
     program::answer(STDIN_FILENO);
 }

@@ -1,5 +1,5 @@
--- What a public call owes: each way out of it is what its definition answers, and the record stands at the start of the buffer.
-use mathlib.Core.Path.{_≡_, refl, ap, _∙_}
+-- For the proofs of public calls: on each way out the answer is the one defined, and the record is at the front of the buffer.
+use mathlib.Core.Path.{_≡_, refl, _∙_}
 use mathlib.Core.Bool.{Bool, true, false}
 use mathlib.Core.List.{List, _++_}
 use mathlib.Core.Option.{none, some}
@@ -12,17 +12,17 @@ use Rattle.logic.specs.Rules.{both, pick}
 use Rattle.logic.specs.Answers.{Answer, refused, answered}
 use Rattle.logic.proofs.Chain.{both-parts}
 use Rattle.record.specs.JobRules.{jobCode}
-use Rattle.fields.specs.Jobs.{longer, mostControls, dataWires, ancillas}
-use Rattle.circuit_fields.specs.Circuits.{circuitBytes}
-use Rattle.measures.specs.declared.Measures.{Measures}
-use Rattle.measures.specs.Measures.{measuresOf}
+use Rattle.record.specs.job_fields.Jobs.{longer, mostControls, dataWires, ancillas}
+use Rattle.record.specs.circuit_fields.Circuits.{circuitBytes}
+use Rattle.circuit.specs.declared.measures.Measures.{Measures}
+use Rattle.circuit.specs.measures.Measures.{measuresOf}
 use Rattle.parity.specs.Parity.{isOdd, tableParity}
 use Rattle.parity.proofs.Odd.{odd-is}
-use Rattle.choice.specs.declared.Best.{Best}
-use Rattle.choice.specs.Inner.{choice, view}
+use Rattle.problem.specs.declared.order.Best.{Best}
+use Rattle.problem.specs.order.Inner.{choice, view}
 use Rattle.problem.specs.Problems.{firstGood}
 use Rattle.outcomes.specs.Outcomes.{GateSet, problemOver, recordOf, Found, outcomeOf, searchOver, reported, written}
-use Rattle.asking.specs.Odd.{alwaysNone}
+use Rattle.outcomes.specs.preflight.Odd.{alwaysNone}
 use Rattle.outcomes.specs.Inner.{Lawfuls, toldOf}
 use Rattle.outcomes.proofs.Facts.{odd-first}
 

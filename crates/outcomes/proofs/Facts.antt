@@ -1,6 +1,6 @@
 -- The search in demand 3's words: what a found circuit is, when there is none, and that nothing else is refused.
 use mathlib.Core.Path.{_≡_, refl, sym, ap, _∙_}
-use mathlib.Core.Bool.{Bool, true, false}
+use mathlib.Core.Bool.{true, false}
 use mathlib.Core.Logic.{_⊎_, inl, inr, _↔_}
 use mathlib.Core.List.{List}
 use mathlib.Core.Option.{Option, none, some}
@@ -17,22 +17,23 @@ use Rattle.logic.proofs.Chain.{and-then-zero, rule-kept}
 use Rattle.logic.proofs.Members.{among-all}
 use Rattle.gate.specs.Gates.{lawful}
 use Rattle.gate.proofs.Tables.{gate-is, among-lawful, lawful-among, all-widen}
-use Rattle.layouts.specs.Layouts.{allowed}
-use Rattle.layouts.proofs.Layouts.{layout-is, layout-has, allowed-ok}
+use Rattle.table.specs.layouts.Layouts.{allowed}
+use Rattle.table.proofs.layouts.Layouts.{layout-is, layout-has, allowed-ok}
 use Rattle.record.specs.JobRules.{jobCode}
-use Rattle.fields.specs.Jobs.{longer, mostControls, dataWires, ancillas, wires, freeLayout, gateLimit, priceOf, durationOf}
+use Rattle.record.specs.job_fields.Jobs.{longer, mostControls, dataWires, ancillas, wires, freeLayout, gateLimit}
 use Rattle.record.proofs.Kept.{sound-job, wires-within}
-use Rattle.fields.proofs.Widths.{two-or-three}
-use Rattle.measures.specs.Measures.{measuresOf}
+use Rattle.record.proofs.job_fields.Widths.{two-or-three}
+use Rattle.circuit.specs.measures.Measures.{measuresOf}
 use Rattle.parity.specs.Parity.{odd, tableParity}
-use Rattle.odd_tables.specs.Ends.{threeControlGates}
-use Rattle.odd_tables.proofs.Even.{none-of-three}
-use Rattle.odd_tables.proofs.Never.{odd-needs-three}
-use Rattle.choice.specs.Choices.{Choice}
+use Rattle.parity.specs.odd_tables.Ends.{threeControlGates}
+use Rattle.parity.proofs.odd_tables.Even.{none-of-three}
+use Rattle.parity.proofs.odd_tables.Never.{odd-needs-three}
+use Rattle.problem.specs.order.Choices.{Choice}
 use Rattle.problem.specs.Problems.{Problem, firstGood}
 use Rattle.problem.specs.Demand.{Admitted, Solves, Winner}
 use Rattle.problem.proofs.Facts as Demand
-use Rattle.outcomes.specs.Outcomes.{GateSet, ownSet, problemOver, problemOf, recordOf, Found, foundOf, outcomeOf, searchOver, searchCode, searchOf}
+use Rattle.outcomes.specs.Outcomes.{GateSet, ownSet, problemOver, problemOf, recordOf, Found, foundOf, outcomeOf, searchOver, searchOf}
+use Rattle.record.specs.pair_codes.Codes.{searchCode}
 use Rattle.outcomes.specs.Inner.{Lawfuls}
 
 -- a code of 0: a well-formed job and at least 15 bytes

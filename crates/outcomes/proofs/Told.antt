@@ -1,12 +1,12 @@
 -- What a caller learns of the outcome from what the search returned and left in the buffer.
-use mathlib.Core.Path.{_≡_, refl, ap, sym, _∙_}
+use mathlib.Core.Path.{_≡_, ap}
 use mathlib.Core.List.{List}
 use Prim.Native.Nat.{ℕ}
 use native.Mathlib.Omega.{arith}
 use lib.ListN.{length, take, drop}
 use lib.Seq.{take-at}
 use Rattle.logic.specs.Answers.{Answer, refused, answered}
-use Rattle.measures.specs.declared.Measures.{Measures}
+use Rattle.circuit.specs.declared.measures.Measures.{Measures}
 use Rattle.outcomes.specs.declared.Searched.{Searched}
 use Rattle.outcomes.specs.declared.Searched.the-variants.{Refused, Found}
 use Rattle.outcomes.specs.Outcomes as outcomes

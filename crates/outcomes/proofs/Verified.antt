@@ -16,26 +16,27 @@ use Rattle.logic.proofs.Members.{member-at, all-member, among-all}
 use Rattle.gate.specs.Gates.{lawful}
 use Rattle.gate.proofs.Widen.{lawful-lt}
 use Rattle.gate.proofs.Tables.{lawful-among}
-use Rattle.layouts.specs.Layouts.{layoutOk, allowed}
+use Rattle.table.specs.layouts.Layouts.{layoutOk, allowed}
 use Rattle.table.specs.Rows.{realizes}
-use Rattle.layouts.proofs.Layouts.{layout-is, layout-has, allowed-ok}
+use Rattle.table.proofs.layouts.Layouts.{layout-is, layout-has, allowed-ok}
 use Rattle.record.specs.JobRules.{jobCode}
-use Rattle.fields.specs.Jobs.{longer, mostControls, dataWires, ancillas, wires, freeLayout, priceOf, durationOf, rows}
-use Rattle.circuit_rules.specs.CircuitRules.{circuitCode}
-use Rattle.circuit_fields.specs.Circuits.{marked, layoutOf, gates, circuitBytes}
-use Rattle.circuit_rules.proofs.Written as Written
+use Rattle.record.specs.job_fields.Jobs.{longer, mostControls, dataWires, ancillas, wires, freeLayout, priceOf, durationOf, rows}
+use Rattle.record.specs.circuit_rules.CircuitRules.{circuitCode}
+use Rattle.record.specs.circuit_fields.Circuits.{marked, layoutOf, gates, circuitBytes}
+use Rattle.record.proofs.circuit_rules.Written as Written
 use Rattle.record.proofs.Kept.{sound-job, wires-within}
-use Rattle.measures.specs.Measures.{measuresOf}
-use Rattle.verify.specs.Calls.{markFits, verifyOf}
+use Rattle.circuit.specs.measures.Measures.{measuresOf}
+use Rattle.verify.specs.Calls.{verifyOf}
+use Rattle.record.specs.pair_codes.Codes.{markFits, searchCode}
 use Rattle.verify.specs.Demand.{PassesAt, Passes, Timed}
 use Rattle.verify.proofs.Codes.{circuit-parts}
 use Rattle.verify.proofs.Pass.{passes-circuit, pass}
 use Rattle.verify.proofs.Bounds.{lawful-here}
 use Rattle.verify.proofs.Ready.{verified-ready}
 use Rattle.parity.specs.Parity.{odd, tableParity}
-use Rattle.odd_tables.specs.Ends.{threeControlGates}
+use Rattle.parity.specs.odd_tables.Ends.{threeControlGates}
 use Rattle.problem.specs.Demand.{Solves}
-use Rattle.outcomes.specs.Outcomes.{GateSet, ownSet, problemOver, recordOf, Found, searchOver, searchCode, searchOf}
+use Rattle.outcomes.specs.Outcomes.{GateSet, ownSet, problemOver, recordOf, Found, searchOver, searchOf}
 use Rattle.outcomes.specs.Inner.{Lawfuls}
 use Rattle.outcomes.proofs.Facts.{found-over, none-over, found-code, kept-code, own-kept, found-sound, found-is, odd-solved}
 

@@ -1,2 +1,3 @@
 pub mod Outcomes
 pub mod Inner
+pub mod preflight

@@ -1,4 +1,4 @@
--- What the search answers: a job as a problem, the problem's first good choice as a record, and what the call makes of it.
+-- What a search answers: a job as a problem, the problem's first good choice as a circuit record, and what the call returns and writes.
 use mathlib.Core.List.{List, _++_}
 use mathlib.Core.Option.{Option, none, some}
 use Prim.Native.Nat.{ℕ}
@@ -7,17 +7,17 @@ use lib.ListN.{length, drop}
 use Rattle.logic.specs.Rules.{pick}
 use Rattle.logic.specs.Answers.{Answer, refused, answered}
 use Rattle.gate.specs.Gates.{gatesFor}
-use Rattle.layouts.specs.Layouts.{layoutsFor}
+use Rattle.table.specs.layouts.Layouts.{layoutsFor}
 use Rattle.table.specs.Rows.{realizes}
-use Rattle.fields.specs.Jobs.{longer, mostControls, dataWires, ancillas, wires, freeLayout, gateLimit, costLimit, depthLimit}
-use Rattle.fields.specs.Jobs.{priceOf, durationOf, rows}
-use Rattle.circuit_fields.specs.Circuits.{circuitBytes}
-use Rattle.measures.specs.declared.Measures.{Measures}
-use Rattle.measures.specs.Measures.{measuresOf}
-use Rattle.choice.specs.Choices.{Choice}
+use Rattle.record.specs.job_fields.Jobs.{longer, mostControls, dataWires, ancillas, wires, freeLayout, gateLimit, costLimit, depthLimit}
+use Rattle.record.specs.job_fields.Jobs.{priceOf, durationOf, rows}
+use Rattle.record.specs.circuit_fields.Circuits.{circuitBytes}
+use Rattle.circuit.specs.declared.measures.Measures.{Measures}
+use Rattle.circuit.specs.measures.Measures.{measuresOf}
+use Rattle.problem.specs.order.Choices.{Choice}
 use Rattle.problem.specs.Problems.{Problem, firstGood}
-unfoldable pub use Rattle.codes.specs.Codes.{searchCode}
 use Rattle.outcomes.specs.declared.Searched.{Searched}
+use Rattle.record.specs.pair_codes.Codes.{searchCode}
 
 -- the gates that a list may be made of, with their prices and durations
 pub record GateSet : Type 0 where
@@ -25,11 +25,13 @@ pub record GateSet : Type 0 where
   pub price : ℕ → ℕ
   pub duration : ℕ → ℕ
 
--- those lawful for a job, at its own; for a longer job "least cost and 'none' range over the larger gate set" (02)
+-- the gates lawful for a job, at the job's own prices and durations; for a longer job "least cost and 'none' range over the larger gate
+-- set" (02)
 abbrev pub ownSet : List ℕ → GateSet
 ownSet job = record { gates = gatesFor (mostControls job) (wires job); price = priceOf job; duration = durationOf job }
 
--- "the meeting circuit with the job's n and m and an allowed placing, within all limits (each limit is itself allowed)"
+-- what a job asks for, over a set of gates: "the meeting circuit with the job's n and m and an allowed placing, within all limits (each
+-- limit is itself allowed)"
 unfoldable pub problemOver : GateSet → List ℕ → Problem
 problemOver G job = record {
   gates = G .gates;
@@ -42,6 +44,7 @@ problemOver G job = record {
   mostDepth = depthLimit job;
 }
 
+-- a job's problem over its own gates
 abbrev pub problemOf : List ℕ → Problem
 problemOf job = problemOver (ownSet job) job
 
@@ -49,11 +52,12 @@ problemOf job = problemOver (ownSet job) job
 unfoldable pub recordOf : List ℕ → ℕ → List ℕ → List ℕ
 recordOf job p l = circuitBytes (dataWires job) (ancillas job) (longer job) p l
 
--- what a search finds
+-- what a search finds: a circuit record, and the circuit's measures
 pub record Found : Type 0 where
   pub bytes : List ℕ
   pub measures : Measures
 
+-- a choice as its record and its measures
 abbrev pub foundOf : GateSet → List ℕ → Choice → Found
 foundOf G job c = record { bytes = recordOf job (c .layout) (c .bytes); measures = measuresOf (G .price) (G .duration) (c .bytes) }
 
@@ -62,10 +66,11 @@ abbrev pub outcomeOf : GateSet → List ℕ → Option Choice → Answer Found
 outcomeOf G job none = refused 14
 outcomeOf G job (some c) = answered (foundOf G job c)
 
--- a search among these gates, after checks that gave a code
+-- a search over a set of gates, once the checks gave `code`: the refusal, or where that is 0 the outcome
 unfoldable pub searchOver : GateSet → List ℕ → ℕ → Answer Found
 searchOver G job code = pick (eqb code 0) (outcomeOf G job (firstGood (problemOver G job))) (refused code)
 
+-- the public search, with `room` bytes for the answer
 unfoldable pub searchOf : List ℕ → ℕ → Answer Found
 searchOf job room = searchOver (ownSet job) job (searchCode job room)
 
@@ -84,12 +89,12 @@ abbrev pub written : Answer Found → List ℕ → List ℕ
 written (refused code) answer = answer
 written (answered f) answer = f .bytes ++ drop (length (f .bytes)) answer
 
--- document 01's number of a refusal, and the values of the other case
+-- the code's enum as an answer: document 01's refusal code, or the length and the measures
 abbrev pub searchedAnswer : Searched → Answer Reported
 searchedAnswer (Searched.Refused code) = refused code
 searchedAnswer (Searched.Found size m) = answered (record { size = size; measures = m })
 
--- the length that an answer names: a caller cuts its buffer there
+-- the length of the record in an answer, 0 for a refusal: a caller cuts its buffer there
 abbrev pub sizeIn : Searched → ℕ
 sizeIn (Searched.Refused code) = 0
 sizeIn (Searched.Found size m) = size

@@ -1,4 +1,4 @@
--- The outputs owed, counted by their bits.
+-- How many outputs are alone for a wire, counted by their bits.
 use mathlib.Core.Path.{_≡_, refl, ap, ap₂, _∙_}
 use mathlib.Core.Logic.{⊎-elim}
 use mathlib.Core.Bool.{Bool, true, false}
@@ -10,7 +10,7 @@ use lib.Bits.{bitAnd}
 use lib.Dec.{eqb}
 use Rattle.logic.specs.Rules.{both, pick, bit, allBelow}
 use Rattle.logic.proofs.Counts.{count-le}
-use Rattle.layouts.specs.Layouts.{Width}
+use Rattle.table.specs.layouts.Layouts.{Width}
 use Rattle.columns.specs.declared.Wanted.{Wanted}
 use Rattle.outputs.specs.Owed.{missed, alone, owed}
 

@@ -1,6 +1,6 @@
 -- The outputs that a layout misses, the ancilla counted in, are at most as many as the gates still to come: a gate changes one column, and
 -- that is the ancilla's or has at most one output of an allowed layout on it.
-use mathlib.Core.Path.{_≡_, sym, ap, _∙_}
+use mathlib.Core.Path.{_≡_, ap, _∙_}
 use mathlib.Core.Logic.{_⊎_, inl, inr, ⊎-elim}
 use mathlib.Core.Bool.{Bool, true, false, not}
 use mathlib.Core.List.{List, [], _∷_, List·Memᴰ}
@@ -22,9 +22,9 @@ use Rattle.gate.specs.Gates.{lawful, gateOf}
 use Rattle.gate.specs.Inner.{firing, columnStep}
 use Rattle.gate.proofs.Widen.{parts}
 use Rattle.gate.proofs.Slices.{length-step}
-use Rattle.running.specs.Inner.{columnsAfter}
-use Rattle.layouts.specs.Layouts.{Width, wireOf, layoutsFor}
-use Rattle.layouts.proofs.Layouts.{wire-within, wire-once, wire-fixed}
+use Rattle.circuit.specs.run.Inner.{columnsAfter}
+use Rattle.table.specs.layouts.Layouts.{Width, wireOf, layoutsFor}
+use Rattle.table.proofs.layouts.Layouts.{wire-within, wire-once, wire-fixed}
 use Rattle.columns.specs.declared.Wanted.{Wanted}
 use Rattle.columns.specs.Wanted.{fitting, fits, met, dirt, tidy}
 use Rattle.columns.specs.Finish.{Finish}

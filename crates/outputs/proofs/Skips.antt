@@ -1,4 +1,4 @@
--- A gate that is not worth a try begins no short way to finish.
+-- A gate that is not worth a try begins no way to finish with the gates that are left.
 use mathlib.Core.Path.{_≡_, sym, ap, _∙_}
 use mathlib.Core.Logic.{_⊎_, inl, inr}
 use mathlib.Core.Bool.{Bool, true, false, not}
@@ -9,12 +9,12 @@ use native.Mathlib.Omega.{arith}
 use borrow.Author.Tests.{eq-eqb, ne-eqb, ltb-false, lt-ltb}
 use lib.Dec.{eqb, ltb}
 use lib.ListN.{length, getD}
-use Rattle.logic.specs.Rules.{both, pick, bit, someBelow, countBelow}
+use Rattle.logic.specs.Rules.{both, pick, bit, someBelow}
 use Rattle.logic.proofs.Counts.{count-split, count-more, not-some}
 use Rattle.gate.specs.Gates.{targetOf, gateOf}
 use Rattle.gate.specs.Inner.{columnStep}
-use Rattle.layouts.specs.Layouts.{Width, wireOf, layoutsFor}
-use Rattle.layouts.proofs.Layouts.{wire-within, wire-fixed}
+use Rattle.table.specs.layouts.Layouts.{Width, wireOf, layoutsFor}
+use Rattle.table.proofs.layouts.Layouts.{wire-within, wire-fixed}
 use Rattle.columns.specs.declared.Wanted.{Wanted}
 use Rattle.columns.specs.Wanted.{fitting, dirt, tidy}
 use Rattle.columns.specs.Finish.{Finish}

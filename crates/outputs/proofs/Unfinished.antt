@@ -11,16 +11,16 @@ use lib.Count.{ones}
 use lib.Dec.{eqb}
 use lib.ListN.{length, getD}
 use lib.Seq.{getD-set-same}
-use Rattle.logic.specs.Rules.{both, either, pick, bit, someBelow}
+use Rattle.logic.specs.Rules.{both, pick, bit, someBelow}
 use Rattle.logic.specs.Bit.{bitOf}
 use Rattle.logic.proofs.Chain.{both-left, both-right, both-true, either-neither}
 use Rattle.logic.proofs.Counts.{count-more, some-at}
 use Rattle.logic.proofs.Xor.{xor-mends}
-use Rattle.gate.specs.Gates.{targetOf, maskOf, kindFor, lawful, gateOf}
-use Rattle.gate.specs.Inner.{firing, columnStep}
+use Rattle.gate.specs.Gates.{targetOf, maskOf, lawful, gateOf}
+use Rattle.gate.specs.Inner.{columnStep}
 use Rattle.gate.proofs.Widen.{parts}
-use Rattle.layouts.specs.Layouts.{Width, wireOf, layoutsFor}
-use Rattle.layouts.proofs.Layouts.{wire-within, wire-fixed}
+use Rattle.table.specs.layouts.Layouts.{Width, wireOf, layoutsFor}
+use Rattle.table.proofs.layouts.Layouts.{wire-within, wire-fixed}
 use Rattle.columns.specs.declared.Wanted.{Wanted}
 use Rattle.columns.specs.Wanted.{misses, allRows, dirt, tidy}
 use Rattle.columns.specs.Finish.{Finish}
@@ -117,16 +117,16 @@ one-more k t n free cs (g ∷ e) p f u h =
       left-few k t n free (columnStep (gateOf g) cs) e p (finish-next k t n free cs g e p f),
     )
 
-pub stuck-none : (k : ℕ) (t : Wanted) (n free : ℕ) (cs e : List ℕ) (p reach : ℕ) → Finish k t n free cs e p → stuck k t cs n free reach ≡ true → length e ≤ reach → ⊥
+pub stuck-none : (k : ℕ) (t : Wanted) (n free : ℕ) (cs e : List ℕ) (p most : ℕ) → Finish k t n free cs e p → stuck k t cs n free most ≡ true → length e ≤ most → ⊥
 unfolding stuck
-stuck-none k t n free cs e p reach f u le = by-size (ℕ-discrete (lost t cs n free) reach)
+stuck-none k t n free cs e p most f u le = by-size (ℕ-discrete (lost t cs n free) most)
   where
     some : Bool
     some = fixable (upTo k) t cs n free
 
-    by-size : Dec (lost t cs n free ≡ reach) → ⊥
+    by-size : Dec (lost t cs n free ≡ most) → ⊥
     by-size (yes s) =
-        let b = rw (eq-eqb (lost t cs n free) reach s) at u in
-        let z = eqb-false reach 0 (not-true (eqb reach 0) (both-left (not (eqb reach 0)) (not some) b)) in
-        omega (arith, one-more k t n free cs e p f (not-true some (both-right (not (eqb reach 0)) (not some) b)) (omega arith))
-    by-size (no s) = omega (arith, ltb-true reach (lost t cs n free) (rw (ne-eqb (lost t cs n free) reach s) at u), lost-few k t n free cs e p f)
+        let b = rw (eq-eqb (lost t cs n free) most s) at u in
+        let z = eqb-false most 0 (not-true (eqb most 0) (both-left (not (eqb most 0)) (not some) b)) in
+        omega (arith, one-more k t n free cs e p f (not-true some (both-right (not (eqb most 0)) (not some) b)) (omega arith))
+    by-size (no s) = omega (arith, ltb-true most (lost t cs n free) (rw (ne-eqb (lost t cs n free) most s) at u), lost-few k t n free cs e p f)

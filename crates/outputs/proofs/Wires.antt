@@ -3,7 +3,7 @@ use mathlib.Core.Logic.{⊎-elim}
 use mathlib.Core.Path.{_≡_}
 use Prim.Native.Nat.{ℕ, zero, suc, _≤_, _<_}
 use native.Mathlib.Omega.{arith}
-use Rattle.layouts.specs.Layouts.{Width}
+use Rattle.table.specs.layouts.Layouts.{Width}
 
 -- what holds at each number below five holds at any
 pub by-five : (P : ℕ → Type 0) → P 0 → P 1 → P 2 → P 3 → P 4 → (w : ℕ) → w < 5 → P w

@@ -1,1 +1,4 @@
 pub mod Owed
+pub mod products
+pub mod plan
+pub mod worth

@@ -1,4 +1,4 @@
--- What makes a table odd, as a test and as a parity.
+-- When a parity is odd: as a test, and by the number of inversions.
 use mathlib.Core.Path.{_≡_, refl}
 use mathlib.Core.Logic.{_↔_}
 use mathlib.Core.Bool.{Bool, true, false, false≢true}

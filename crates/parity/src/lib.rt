@@ -1,10 +1,17 @@
-// The parity of a job's table: even or odd where the table is a permutation of the rows.
+// The parity of a job's table: even or odd where the table is a full permutation, else neither. This root has the public call `parity`.
+// - `inverting`: inversions of a table, counted modulo 2.
+// - `odd_tables`: why gates of at most two controls cannot realize an odd table on four wires without an ancilla; theorems only.
+// - `permuting`: whether a table is a full permutation.
+pub mod inverting;
+pub mod odd_tables;
+pub mod permuting;
+
+use record::job_fields;
 ghost use mathlib.Core.Path.{_≡_};
 ghost use Rattle.logic.specs.Answers.{answered};
-ghost use Rattle.permuting.specs.Values.{permutes, inversions};
-ghost use Rattle.parity.specs.Parity.{isOdd, tableParity, parityOf, parityAnswer};
+ghost use Rattle.parity.specs.Parity.{isOdd, tableParity, parityOf, parityAnswer, permutes, inversions};
 
-// What is found of a table: the number of the job's first rule broken, or the parity.
+// What `parity` answers: the code of the first rule that the job breaks, or the parity of its table.
 pub enum TableParity {
     Refused(u8),
     Even,
@@ -18,24 +25,25 @@ pub fn odd_table(job: &[u8]) -> bool
 {
     logic::both(
         permuting::permutes(job),
-        inverting::inversions(fields::table(job)) == 1,
+        inverting::inversions(job_fields::table(job)) == 1,
     )
 }
 
+// The parity of a job's table, without the job's checks.
 fn table_parity(job: &[u8]) -> TableParity
     ensures { λ r. ⌜ parityAnswer r ≡ answered (tableParity (now (job .entry))) ⌝ }
 {
     if !permuting::permutes(job) {
         return TableParity::Neither;
     }
-    if inverting::inversions(fields::table(job)) == 1 {
+    if inverting::inversions(job_fields::table(job)) == 1 {
         TableParity::Odd
     } else {
         TableParity::Even
     }
 }
 
-// The parity of a job's table, after the job's checks.
+// Checks a job and finds the parity of its table.
 pub fn parity(job: &[u8]) -> TableParity
     ensures { λ r. ⌜ parityAnswer r ≡ parityOf (now (job .entry)) ⌝ }
 {

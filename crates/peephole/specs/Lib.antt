@@ -1,2 +1,4 @@
 pub mod Answers
 pub mod Inner
+pub mod windows
+pub mod listing

@@ -1,30 +1,37 @@
-// Long gate lists, a few gates at a time: each window of a list is a job for the search, and what is found takes its place where it is cheaper.
+// Peephole optimization of long gate lists: the call `rewrite` goes through a list with a window of 2 to 4 gates. The gates in a window are
+// made a job for the search; the window yields where the search finds cheaper gates that do the same. The leftmost window that yields is
+// replaced by what was found, and so on until none yields. A caller gets the new number of gates, the list in its own buffer with the bytes
+// freed at the end set to 0; or a refusal code, 32 to 34, with the list as it was.
+pub mod listing; // what needs no search: the rules of a list, the job of a window, and a window replaced
+pub mod windows; // definitions and theorems: when a window yields, and what a list becomes
+
+use crate::windows::Prices;
 use outcomes::Searched;
-use windows::Prices;
 ghost use mathlib.Core.Path.{_≡_};
 ghost use Prim.Native.Nat.{_+_, _-_, _≤_};
 ghost use lib.ListN.{length, take};
-ghost use Rattle.layouts.specs.Layouts.{Width};
-ghost use Rattle.windows.specs.Windows.{better, rewritten};
-ghost use Rattle.windows.specs.Listings.{rewriteOf, listLeft};
-ghost use Rattle.windows.specs.Inner.{Still};
+ghost use Rattle.table.specs.layouts.Layouts.{Width};
+ghost use Rattle.peephole.specs.windows.Windows.{better, rewritten};
+ghost use Rattle.peephole.specs.windows.Listings.{rewriteOf, listLeft};
+ghost use Rattle.peephole.specs.windows.Inner.{Still};
 ghost use Rattle.peephole.specs.Answers.{rewrittenAnswer};
 ghost use Rattle.peephole.specs.Inner.{offered, Scanned};
 
-// What the call answers: a refusal's number, or how many gates the list has now.
+// The answer: a refusal code, or how many gates the list has now.
 pub enum Rewritten {
     Refused(u8),
     Gates(usize),
 }
 
-// What the search found for a window: whether it is cheaper, and the gates that stand in its record from byte 3 on.
+// What the search found for a window: whether it is cheaper than the window, and its record, whose `len` gates begin at byte 3.
 pub struct Offer {
     pub cheaper: bool,
     pub len: usize,
     pub bytes: [u8; 15],
 }
 
-// The same for the first window that yields, and where it begins.
+// The first window that yields: it begins at gate `at`, and the `len` gates from byte 3 on of the record `bytes` replace it. Where no
+// window yields, `found` is false.
 pub struct Hit {
     pub found: bool,
     pub at: usize,
@@ -32,7 +39,7 @@ pub struct Hit {
     pub bytes: [u8; 15],
 }
 
-// What the search finds for a window.
+// What the search finds for the gates of a window.
 fn look_at(wires: usize, prices: Prices, gates: &[u8]) -> Offer
     requires { ⌜ Width wires ⌝ }
     requires { ⌜ length (now gates) ≤ 4 ⌝ }
@@ -56,12 +63,13 @@ fn look_at(wires: usize, prices: Prices, gates: &[u8]) -> Offer
     }
 }
 
-// The first window from gate `from` on that yields.
+// The first window that yields, of those that begin at gate `from` or later.
 fn next_hit(wires: usize, window: usize, prices: Prices, list: &[u8], from: usize) -> Hit
     requires { ⌜ Width wires ⌝ }
     requires { ⌜ (1 ≤ window) × (window ≤ 4) ⌝ }
     requires { ⌜ from ≤ length (now list) ⌝ }
-    ensures { λ r. ⌜ (Still (better wires prices) window from (now (list .entry)) → Scanned (better wires prices) window (now (list .entry)) r) ⌝ }
+    ensures { λ r. ⌜ (Still (better wires prices) window from (now (list .entry))
+        → Scanned (better wires prices) window (now (list .entry)) r) ⌝ }
 {
     let mut i = from;
     while window <= list.len() - i {
@@ -86,7 +94,7 @@ fn next_hit(wires: usize, window: usize, prices: Prices, list: &[u8], from: usiz
     }
 }
 
-// Where the scan goes on after a replacement: every window that ends before it is as it was.
+// Where the scan resumes after a replacement at gate `at`: at the first window that reaches gate `at`. The windows before it are unchanged.
 fn resume(at: usize, window: usize) -> usize
     requires { ⌜ 1 ≤ window ⌝ }
     ensures { λ r. ⌜ r ≡ at + 1 - window ⌝ }
@@ -94,7 +102,7 @@ fn resume(at: usize, window: usize) -> usize
     if window <= at { at - (window - 1) } else { 0 }
 }
 
-// Replaces the leftmost window that yields until none does; gives how many gates are left, at the front.
+// Replaces the leftmost window that yields until none does, and returns how many gates are left, at the front of the buffer.
 fn settle(wires: usize, window: usize, prices: Prices, list: &mut [u8]) -> usize
     requires { ⌜ Width wires ⌝ }
     requires { ⌜ (1 ≤ window) × (window ≤ 4) ⌝ }
@@ -115,7 +123,7 @@ fn settle(wires: usize, window: usize, prices: Prices, list: &mut [u8]) -> usize
     }
 }
 
-// Makes a list cheaper, a window of gates at a time, and gives its new number of gates. The bytes that it no longer needs become 0.
+// Makes a list cheaper, a window of gates at a time, and returns its new number of gates. The bytes that it no longer needs become 0.
 pub fn rewrite(wires: u8, window: u8, prices: Prices, list: &mut [u8]) -> Rewritten
     ensures { λ r. ⌜ rewrittenAnswer r ≡ rewriteOf wires window prices (now (list .entry)) ⌝ }
     ensures { λ _. ⌜ now (list .exit) ≡ listLeft wires window prices (now (list .entry)) ⌝ }

@@ -7,9 +7,9 @@ use mathlib.Core.Option.{Option, none, some}
 use Prim.Native.Nat.{ℕ, _≤_}
 use native.Mathlib.Omega.{arith}
 use Rattle.circuit.specs.Measure.{cost}
-use Rattle.choice.specs.Choices.{Choice, before}
-use Rattle.choice.proofs.Order.{lex-true}
-use Rattle.choice.proofs.First.{found, nothing}
+use Rattle.problem.specs.order.Choices.{Choice, before}
+use Rattle.problem.proofs.order.Order.{lex-true}
+use Rattle.problem.proofs.order.First.{found, nothing}
 use Rattle.problem.specs.Problems.{Problem, choiceOf, choices, good, firstGood}
 use Rattle.problem.specs.Demand.{Admitted, Solves, Winner}
 use Rattle.problem.proofs.Listed.{Listed, listed, unlisted, within-parts, within-joined}

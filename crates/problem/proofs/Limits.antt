@@ -1,20 +1,20 @@
--- The limits of one search after the other: what a search that fails leaves over, and why the first that finds something has the answer.
+-- Iterative deepening: what a search under limits rules out if it finds nothing, and why the first one that finds something has the answer.
 use mathlib.Core.Path.{_≡_, refl, sym, ap, _∙_}
 use mathlib.Core.Bool.{Bool, true, false}
 use mathlib.Core.List.{[], List·Memᴰ}
 use mathlib.Core.Option.{none, some}
-use Prim.Native.Nat.{ℕ, _+_, _≤_, _<_}
+use Prim.Native.Nat.{ℕ, _+_, _≤_}
 use native.Mathlib.Omega.{arith}
 use borrow.Author.Tests.{leb-true, leb-false}
 use lib.Dec.{leb}
 use Rattle.logic.proofs.Chain.{not-so}
-use Rattle.choice.specs.declared.Best.{Best}
-use Rattle.choice.specs.Choices.{Choice, under}
-use Rattle.choice.specs.Inner.{choice, view}
-use Rattle.choice.proofs.First.{found, nothing}
-use Rattle.choice.proofs.Order.{by-cost}
-use Rattle.choice.proofs.Held.{held-some, by-fewer}
-use Rattle.choice.proofs.Deepening.{exhausted, settled}
+use Rattle.problem.specs.declared.order.Best.{Best}
+use Rattle.problem.specs.order.Choices.{Choice, under}
+use Rattle.problem.specs.order.Inner.{choice, view}
+use Rattle.problem.proofs.order.First.{found, nothing}
+use Rattle.problem.proofs.order.Order.{by-cost}
+use Rattle.problem.proofs.order.Held.{held-some, by-fewer}
+use Rattle.problem.proofs.order.Deepening.{exhausted, settled}
 use Rattle.problem.specs.Problems.{Problem, here, choices, within, good, firstGood}
 use Rattle.problem.specs.Inner.{lookedUnder, Past, Dearer, Shortest}
 use Rattle.problem.proofs.Listed.{listed, unlisted, gates-are, within-parts, within-joined}

@@ -10,8 +10,8 @@ use Rattle.logic.specs.Rules.{both}
 use Rattle.logic.specs.Lists.{Among}
 use Rattle.logic.proofs.Chain.{both-left, both-right, both-true, both-second}
 use Rattle.circuit.specs.Measure.{cost, depth}
-use Rattle.choice.specs.Choices.{Choice, under}
-use Rattle.choice.proofs.Enumeration.{under-is, under-has}
+use Rattle.problem.specs.order.Choices.{Choice, under}
+use Rattle.problem.proofs.order.Enumeration.{under-is, under-has}
 use Rattle.problem.specs.Problems.{Problem, choiceOf, here, within}
 
 -- a choice of a list that begins with l and goes on by at most k gates

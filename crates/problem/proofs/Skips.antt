@@ -1,5 +1,5 @@
--- Why nothing below a list can change what is held: by the cost, the gates and the depth of the list itself, or since it cannot be finished
--- with the gates that may still come.
+-- Why nothing below a list can change the incumbent: by the cost, the gates and the depth of the list itself, or since it cannot be
+-- finished with the gates that may still come.
 use mathlib.Core.Path.{_≡_, refl, sym, ap, _∙_}
 use mathlib.Core.Bool.{Bool, true, false}
 use mathlib.Core.List.{List, [], _∷_, _++_, append-assoc, List·Memᴰ}
@@ -13,11 +13,11 @@ use Rattle.logic.specs.Lists.{Among}
 use Rattle.logic.proofs.Members.{among-cons}
 use Rattle.circuit.specs.Measure.{cost, depth}
 use Rattle.circuit.proofs.Prefix.{gates-front, cost-front, depth-front}
-use Rattle.choice.specs.declared.Best.{Best}
-use Rattle.choice.specs.Choices.{Choice, attempt, improve, under}
-use Rattle.choice.specs.Inner.{view}
-use Rattle.choice.proofs.First.{attempt-not, improve-skip, left-later}
-use Rattle.choice.proofs.Held.{dearer-left, longer-left}
+use Rattle.problem.specs.declared.order.Best.{Best}
+use Rattle.problem.specs.order.Choices.{Choice, attempt, improve, under}
+use Rattle.problem.specs.order.Inner.{view}
+use Rattle.problem.proofs.order.First.{attempt-not, improve-skip, left-later}
+use Rattle.problem.proofs.order.Held.{dearer-left, longer-left}
 use Rattle.problem.specs.Problems.{Problem, choiceOf, here, within}
 use Rattle.problem.specs.Inner.{lookedUnder, Enough}
 use Rattle.problem.proofs.Listed.{listed, dear, deep, unrealized}

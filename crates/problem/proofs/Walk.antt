@@ -1,15 +1,15 @@
--- The walk: what the recursion owes where it stops, after each gate, and at its end.
-use mathlib.Core.Path.{_≡_, refl, sym, _∙_}
+-- The walk: what the recursion has to show where it stops, after each gate, and at its end.
+use mathlib.Core.Path.{_≡_, refl, sym}
 use mathlib.Core.List.{List, [], _∷_, _++_, append-assoc, List·Memᴰ}
 use mathlib.Core.Option.{Option}
-use Prim.Native.Nat.{ℕ, zero, suc, _+_, _-_, _≤_, _<_}
+use Prim.Native.Nat.{ℕ, zero, suc, _+_, _-_, _<_}
 use native.Mathlib.Omega.{arith}
 use lib.ListN.{length, getD}
 use lib.Seq.{take-length}
 use Rattle.logic.proofs.Members.{among-cons}
-use Rattle.choice.specs.Choices.{Choice, attempt, improve, under, below}
-use Rattle.choice.proofs.First.{improve-append, improve-skip, left-later}
-use Rattle.choice.proofs.Enumeration.{under-zero, under-suc, flatMap-is, turn, node}
+use Rattle.problem.specs.order.Choices.{Choice, attempt, improve, under, below}
+use Rattle.problem.proofs.order.First.{improve-append, improve-skip, left-later}
+use Rattle.problem.proofs.order.Enumeration.{under-zero, under-suc, flatMap-is, turn, node}
 use Rattle.problem.specs.Problems.{Problem, choiceOf, here, within}
 use Rattle.problem.specs.Inner.{lookedUnder, Enough}
 use Rattle.problem.proofs.Listed.{listed}

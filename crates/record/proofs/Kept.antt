@@ -1,4 +1,4 @@
--- What a job that breaks no rule is known to be, once for all rules.
+-- What a well-formed job is known to have, rule by rule.
 use mathlib.Core.Path.{_≡_, ap, _∙_}
 use mathlib.Core.Bool.{Bool, true, false}
 use mathlib.Core.Logic.{_⊎_, inl, inr, ⊎-elim}
@@ -9,18 +9,18 @@ use borrow.Author.Tests.{eqb-true, leb-true}
 use lib.Dec.{eqb, leb, lit<}
 use lib.Count.{ones}
 use lib.ListN.{length, getD, length-drop}
-use Rattle.logic.specs.Rules.{both, either, implies, pick, rule}
+use Rattle.logic.specs.Rules.{both, either, implies, pick}
 use Rattle.logic.specs.Lists.{allOf}
 use Rattle.logic.proofs.Chain.{both-left, both-parts, either-cases, rule-kept}
 use Rattle.gate.specs.Gates.{maskOf, lawful, kindFor, gateOf}
 use Rattle.gate.proofs.Widen.{parts}
 use Rattle.circuit.specs.Measure.{weightFor, weightOf}
-use Rattle.layouts.specs.Layouts.{Width}
+use Rattle.table.specs.layouts.Layouts.{Width}
 use Rattle.table.specs.Rows.{rowOk}
-use Rattle.fields.specs.Jobs.{longer, mostControls, dataWires, ancillas, wires, gateLimit, durations, durationOf, rows}
+use Rattle.record.specs.job_fields.Jobs.{longer, mostControls, dataWires, ancillas, wires, gateLimit, durations, durationOf, rows}
 use Rattle.record.specs.JobRules.{jobLengthOk, sizeOk, headOk, limitOk, durationsOk, rowsOk, jobCode}
 use Rattle.record.specs.Inner.{jobRest}
-use Rattle.fields.proofs.Widths.{three-to-five}
+use Rattle.record.proofs.job_fields.Widths.{three-to-five}
 
 pub record SoundJob (job : List ℕ) : Type 0 where
   pub width : Width (dataWires job)
@@ -47,12 +47,12 @@ module _ (job : List ℕ) where
                 (either-cases (eqb (length job) k) (eqb (length job) l) (p .1)),
           )
 
-  -- the rows are what follows the first 12 or 14 bytes
+  -- the rows are the bytes after the first 12 or 14
   rows-of : (k : ℕ) → length job ≡ k → length (rows job) ≡ k - pick (either (eqb k 22) (eqb k 30)) 14 12
   unfolding longer
   rows-of k e = length-drop (pick (longer job) 14 12) job ∙ ap (λ n. n - pick (either (eqb n 22) (eqb n 30)) 14 12) e
 
-  -- a gate of three controls has a duration where the job has a fourth
+  -- in a longer job a gate of three controls lasts at least 1
   slow-at : durationsOk job ≡ true → (n m : ℕ) → n ≤ mostControls job → 1 ≤ weightFor (durations job) (kindFor n m)
   unfolding durationsOk
   slow-at h n m =

@@ -1,4 +1,4 @@
--- A job record longer than every job is refused by its length, whatever it holds.
+-- Bytes that are longer than any job are refused for their length, whatever they are.
 use mathlib.Core.Path.{_≡_}
 use mathlib.Core.List.{List}
 use Prim.Native.Nat.{ℕ, _<_}
@@ -6,7 +6,7 @@ use native.Mathlib.Omega.{arith}
 use borrow.Author.Tests.{ne-eqb}
 use lib.ListN.{length}
 use Rattle.record.specs.JobRules.{jobLengthOk, jobCode}
-use Rattle.fields.specs.Jobs.{longer}
+use Rattle.record.specs.job_fields.Jobs.{longer}
 
 pub long-job : (job : List ℕ) → 30 < length job → jobCode job ≡ 1
 unfolding jobCode jobLengthOk longer

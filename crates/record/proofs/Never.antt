@@ -1,9 +1,8 @@
--- No job breaks a rule of the number 11.
+-- No job is refused with 11.
 use mathlib.Core.Path.{_≡_}
 use mathlib.Core.List.{List}
 use Prim.Native.Nat.{ℕ, _-_}
 use native.Mathlib.Omega.{arith}
-use Rattle.logic.specs.Rules.{rule}
 use Rattle.logic.proofs.Chain.{rule-never}
 use Rattle.record.specs.JobRules.{jobLengthOk, sizeOk, headOk, limitOk, durationsOk, rowsOk, jobCode}
 

@@ -1,4 +1,4 @@
--- The later rules of a job, for the functions that check them once the first is kept.
+-- The rules of a job after its length, for the private function that checks them.
 use mathlib.Core.List.{List}
 use Prim.Native.Nat.{ℕ}
 use Rattle.logic.specs.Rules.{rule}

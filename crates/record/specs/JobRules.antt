@@ -1,4 +1,4 @@
--- The checks of a job record, in document 01's order with its numbers.
+-- The checks of a job record, in document 01's order with its refusal codes, widened to the longer records of document 02.
 use mathlib.Core.Bool.{Bool}
 use mathlib.Core.List.{List}
 use Prim.Native.Nat.{ℕ, _%_}
@@ -7,13 +7,13 @@ use lib.ListN.{length, getD}
 use Rattle.logic.specs.Rules.{both, either, implies, rule}
 use Rattle.logic.specs.Lists.{allOf}
 use Rattle.table.specs.Rows.{rowOk}
-use Rattle.fields.specs.Jobs.{longer, dataWires, ancillas, gateLimit, durations, rows}
+use Rattle.record.specs.job_fields.Jobs.{longer, dataWires, ancillas, gateLimit, durations, rows}
 
--- "Is it 20 or 28 bytes long? If not, 1." Widened: or a longer one
+-- "Is it 20 or 28 bytes long? If not, 1." Or 22 or 30 bytes long
 unfoldable pub jobLengthOk : List ℕ → Bool
 jobLengthOk job = either (either (eqb (length job) 20) (eqb (length job) 28)) (longer job)
 
--- "Is n = 3 with 20, n = 4 with 28? If not, 2." Widened: or 22, or 30
+-- "Is n = 3 with 20, n = 4 with 28? If not, 2." Or n = 3 with 22, n = 4 with 30
 unfoldable pub sizeOk : List ℕ → Bool
 sizeOk job =
     either (both (eqb (dataWires job) 3) (either (eqb (length job) 20) (eqb (length job) 22)))
@@ -27,7 +27,7 @@ headOk job = both (leb (ancillas job) 1) (eqb (getD job 0 0 % 4) 0)
 unfoldable pub limitOk : List ℕ → Bool
 limitOk job = leb (gateLimit job) 12
 
--- "Are all durations at least 1? If not, 5." All three, or all four
+-- "Are all durations at least 1? If not, 5." All three or, in a longer record, all four
 unfoldable pub durationsOk : List ℕ → Bool
 durationsOk job =
     both (leb 1 (durations job .not))
@@ -39,7 +39,7 @@ durationsOk job =
 unfoldable pub rowsOk : List ℕ → Bool
 rowsOk job = allOf (rowOk (dataWires job)) (rows job)
 
--- the code of the first rule broken, or 0: a job with 0 is document 01's well-formed
+-- the code of the first rule broken, or 0 for a job that is well-formed
 unfoldable pub jobCode : List ℕ → ℕ
 jobCode job =
     rule (jobLengthOk job) 1

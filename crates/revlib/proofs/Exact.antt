@@ -1,19 +1,20 @@
 -- A text is read as a description exactly when the description is well formed and the text is its rendering.
 use mathlib.Core.Path.{_≡_, refl, sym, ap, _∙_}
 use mathlib.Core.Bool.{Bool, true, false, false≢true}
-use mathlib.Core.Logic.{_⊎_, inl, inr, ⊎-elim, _↔_}
-use mathlib.Core.List.{List, [], _∷_, _++_, append-assoc}
+use mathlib.Core.Logic.{_⊎_, ⊎-elim, _↔_}
+use mathlib.Core.List.{List, [], _∷_, _++_}
 use mathlib.Core.Option.{Option, none, some}
 use Prim.Native.Nat.{ℕ, zero, suc, _+_, _-_, _*_, _≤_}
 use native.Mathlib.Omega.{arith}
 use borrow.Author.Tests.{eqb-true, eq-eqb, leb-true}
 use lib.Dec.{eqb, leb}
-use lib.ListN.{length, drop, length-append, length-drop, drop-of-length-le}
+use lib.ListN.{length, drop, length-append, drop-of-length-le}
 use lib.Seq.{drop-append-seam}
 use Rattle.logic.specs.Rules.{both, either, pick}
 use Rattle.logic.specs.Lists.{allOf}
 use Rattle.logic.proofs.Chain.{both-left, both-right, both-parts, both-true, either-cases}
-use Rattle.revlib.specs.Grammar.{bytes, Constants, unsaid, allData, oneAncilla, Description, ancillaCount, spaced, numvarsLine, variablesLine, constantsLine, constantsWord, heading, gateLine, body, render, different, lowerCase, dataCount, headingOk, lineOk, declared, wellFormed}
+use Rattle.revlib.specs.Grammar.{Constants, unsaid, allData, oneAncilla, Description, spaced, numvarsLine, variablesLine, constantsLine, constantsWord, heading, gateLine, body, render, different, lowerCase, dataCount, headingOk, lineOk, declared, wellFormed}
+use Rattle.logic.specs.Words.{bytes}
 use Rattle.revlib.specs.Reading.{starts, announced, lineAt, lineHere, endHere, after, linesAt, namesAt, constantsAt, constantsIn, headingHere, described, restOf, parse}
 
 -- Words.

@@ -1,4 +1,4 @@
--- What a caller is promised of every text and every answer buffer.
+-- The promises of change request 1 on reading, for every text and every length of the answer buffer.
 use mathlib.Core.Path.{_≡_, refl, sym, ap, _∙_}
 use mathlib.Core.Bool.{Bool, true, false}
 use mathlib.Core.Logic.{_↔_}
@@ -9,10 +9,9 @@ use native.Mathlib.Omega.{arith}
 use borrow.Author.Tests.{le-leb, lt-leb, leb-true, leb-false}
 use lib.Dec.{leb}
 use lib.ListN.{length}
-use Rattle.logic.specs.Rules.{pick}
-use Rattle.logic.specs.Answers.{Answer, refused, answered}
-use Rattle.circuit_rules.specs.CircuitRules.{circuitCode}
-use Rattle.revlib.specs.Grammar.{Description, wellFormed, render, recordOf}
+use Rattle.logic.specs.Answers.{refused, answered}
+use Rattle.record.specs.circuit_rules.CircuitRules.{circuitCode}
+use Rattle.revlib.specs.Grammar.{Description, recordOf}
 use Rattle.revlib.specs.Reading.{parse, outcomeOf, readOf}
 use Rattle.revlib.specs.Demand.{Fits}
 use Rattle.revlib.proofs.Exact.{exact}
@@ -23,7 +22,7 @@ pub narrow : (text : List ℕ) (room : ℕ) → room < 15 → readOf text room �
 unfolding readOf
 narrow text room h = rw (lt-leb 15 room h)
 
--- a text has one meaning
+-- a text fits at most one description
 pub one-meaning : (text : List ℕ) (d e : Description) → Fits text d → Fits text e → d ≡ e
 one-meaning text d e f g =
     let p = exact text d .1 (f .well, f .rendered) in
@@ -31,7 +30,7 @@ one-meaning text d e f g =
     cc
 
 module _ (text : List ℕ) (room : ℕ) (wide : 15 ≤ room) where
-  -- a text of at most 4,096 bytes is answered by what it says
+  -- the answer for a text of at most 4,096 bytes depends on what it says
   pub within : length text ≤ 4096 → readOf text room ≡ outcomeOf (parse text)
   unfolding readOf
   within h = rw (le-leb 15 room wide, le-leb (length text) 4096 h)

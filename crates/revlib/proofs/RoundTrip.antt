@@ -1,8 +1,8 @@
--- The text of a circuit says the circuit.
+-- Writing and reading: the text of a circuit is read as that circuit.
 use mathlib.Core.Path.{_≡_, refl, sym, ap, ap₂, _∙_}
 use mathlib.Core.Bool.{Bool, true, false, not}
-use mathlib.Core.Logic.{_⊎_, inl, inr, ⊎-elim}
-use mathlib.Core.List.{List, [], _∷_, _++_, map}
+use mathlib.Core.Logic.{inl, inr}
+use mathlib.Core.List.{List, [], _∷_, map}
 use Prim.Native.Nat.{ℕ, zero, suc, _+_, _-_, _*_, _≤_, _<_}
 use native.Mathlib.Decide.{ℕ-discrete}
 use native.Mathlib.Omega.{arith}
@@ -11,26 +11,25 @@ use lib.Count.{ones, onesIn, trailingZeros, leadingZeros}
 use lib.Dec.{eqb, leb, lit<}
 use lib.ListN.{length, length-append, length-map}
 use Rattle.logic.specs.Rules.{both, implies, pick, rule, allBelow}
-use Rattle.logic.specs.Lists.{allOf, numbersFrom}
+use Rattle.logic.specs.Lists.{allOf}
 use Rattle.logic.specs.Answers.{answered}
-use Rattle.logic.proofs.Chain.{both-left, both-right, both-parts, both-true, implied, rule-kept, and-then-zero}
+use Rattle.logic.proofs.Chain.{both-parts, both-true, implied, rule-kept, and-then-zero}
 use Rattle.logic.proofs.Below.{below}
 use Rattle.gate.specs.Gates.{lawful, gateOf}
 use Rattle.gate.proofs.Widen.{lawful-lt}
-use Rattle.layouts.specs.Layouts.{Width, plain}
-use Rattle.fields.specs.Jobs.{dataWires, ancillas, wires}
-use Rattle.circuit_rules.specs.CircuitRules.{circuitCode}
-use Rattle.circuit_fields.specs.Circuits.{marked, layoutOf, gates, circuitBytes}
-use Rattle.circuit_rules.proofs.Sound.{sound-circuit, circuit-wires-within}
-use Rattle.circuit_rules.proofs.Written.{rebuilt}
-use Rattle.revlib.specs.Grammar.{bytes, Constants, Description, ancillaCount, spaced, numvarsLine, variablesLine, constantsLine, constantsWord, heading, gateLine, body, render, isIn, different, lowerCase, dataCount, headingOk, declared, lineOk, wellFormed, wireOf, gateByte, recordOf}
+use Rattle.table.specs.layouts.Layouts.{Width, plain}
+use Rattle.record.specs.job_fields.Jobs.{dataWires, ancillas, wires}
+use Rattle.record.specs.circuit_rules.CircuitRules.{circuitCode}
+use Rattle.record.specs.circuit_fields.Circuits.{marked, layoutOf, gates}
+use Rattle.record.proofs.circuit_rules.Sound.{sound-circuit, circuit-wires-within}
+use Rattle.record.proofs.circuit_rules.Written.{rebuilt}
+use Rattle.revlib.specs.Grammar.{ancillaCount, spaced, numvarsLine, variablesLine, constantsLine, constantsWord, heading, gateLine, body, render, isIn, different, lowerCase, dataCount, headingOk, lineOk, wellFormed, wireOf, gateByte, recordOf}
 use Rattle.revlib.specs.Reading.{readOf}
-use Rattle.revlib.specs.Demand.{Fits}
 use Rattle.revlib.specs.Writing.{Reply, lineFor, lettersFor, constantsFor, describe, textOf, textCode, writeOf}
 use Rattle.revlib.proofs.Exact.{line-count, line-length}
 use Rattle.revlib.proofs.Promises.{accepted}
 
--- a lawful gate's line keeps the rules and stands for the gate, computed
+-- the line of a lawful gate is in order and gives the gate back: computed
 abbrev told : ℕ → ℕ → Bool
 told w b = implies (lawful 2 w b) (both (lineOk (lettersFor w) (lineFor b)) (eqb (gateByte (lettersFor w) (lineFor b)) b))
 
@@ -69,7 +68,7 @@ module _ (w : ℕ) (few : w ≤ 5) where
       let k = line-count (lettersFor w) (lineFor b) (line-told b (p .0) .0) in
       omega (arith, length-append (gateLine (lineFor b)) (body (map lineFor gs)), line-length (lineFor b), body-length gs (p .1))
 
--- the four headings keep the rules, name n and m, and are short
+-- the four headings are in order, give n and m back, and have at most 80 bytes
 heading-facts : (n m : ℕ) → Width n → m ≤ 1
     → (headingOk (lettersFor (n + m)) (constantsFor m) ≡ true)
     × ((dataCount (lettersFor (n + m)) (constantsFor m) ≡ n)
@@ -81,7 +80,7 @@ heading-facts n zero (inr e) h = rw e (refl, (refl, (refl, omega arith)))
 heading-facts n (suc zero) (inr e) h = rw e (refl, (refl, (refl, omega arith)))
 heading-facts n (suc (suc m)) w h = absurd (omega arith)
 
--- A text breaks no rule of circuits, and the circuit is unmarked and has plain layout.
+-- a circuit that has a text is sound and unmarked and has the plain layout
 pub text-rules : (c : List ℕ) → textCode c ≡ 0
     → (circuitCode c ≡ 0) × ((marked c ≡ false) × (layoutOf c ≡ plain (dataWires c)))
 unfolding textCode
@@ -93,7 +92,7 @@ text-rules c h =
       (not-true (marked c) (k .0), eqb-true (layoutOf c) (plain (dataWires c)) (rule-kept laid 15 0 (lit< tt) (k .1) .0)),
     )
 
--- An unmarked circuit that breaks no rule, with plain layout.
+-- a sound, unmarked circuit with plain layout
 module _ (c : List ℕ) (sound : circuitCode c ≡ 0) (unmarked : marked c ≡ false) where
   facts : (headingOk (lettersFor (wires c)) (constantsFor (ancillas c)) ≡ true)
       × ((dataCount (lettersFor (wires c)) (constantsFor (ancillas c)) ≡ dataWires c)
@@ -111,7 +110,7 @@ module _ (c : List ℕ) (sound : circuitCode c ≡ 0) (unmarked : marked c ≡ f
   unfolding wellFormed describe
   well = both-true (facts .0) (lines-ok (wires c) few-wires (gates c) lawful-gates)
 
-  -- at most 80 bytes, nine a gate and five
+  -- the length of its text: at most 80 bytes of heading, nine bytes a gate, and five of `.end`
   pub text-short : length (textOf c) ≤ 193
   unfolding textOf render describe
   text-short =
@@ -136,7 +135,7 @@ module _ (c : List ℕ) (sound : circuitCode c ≡ 0) (unmarked : marked c ≡ f
       accepted (textOf c) room wide c .1
       (describe c, (record { well = well; rendered = refl; short = omega (arith, text-short) }, (rw (length-map (gates c) lineFor) k, same-record e)))
 
--- The same of the call: whatever text it writes is read as the circuit.
+-- the round trip for the calls: whatever text `write_real` writes is read as the circuit
 pub written-read : (c : List ℕ) (room : ℕ) (text : List ℕ) → writeOf c room ≡ Reply.answered text → (wide : ℕ) → 15 ≤ wide → readOf text wide ≡ answered c
 unfolding writeOf
 written-read c room text h wide k = by-code (ℕ-discrete (textCode c) 0)

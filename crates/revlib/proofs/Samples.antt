@@ -1,14 +1,15 @@
--- Texts of each shape and departures, read; and a text written.
+-- Sample texts of each shape, departures from the form, and a text written.
 use mathlib.Core.Path.{_≡_, refl}
-use mathlib.Core.List.{List, [], _∷_, _++_, map}
+use mathlib.Core.List.{List, [], _∷_, _++_}
 use Prim.Native.Nat.{ℕ, zero, suc}
 use lib.Count.{ones, onesIn, trailingZeros, leadingZeros}
 use Rattle.logic.specs.Lists.{allOf}
 use Rattle.logic.specs.Answers.{refused, answered}
 use Rattle.gate.specs.Gates.{gateOf}
-use Rattle.fields.specs.Jobs.{dataWires, ancillas, wires}
-use Rattle.circuit_fields.specs.Circuits.{circuitBytes}
-use Rattle.revlib.specs.Grammar.{bytes, spaced, numvarsLine, variablesLine, constantsLine, constantsWord, heading, gateLine, body, render}
+use Rattle.record.specs.job_fields.Jobs.{dataWires, ancillas, wires}
+use Rattle.record.specs.circuit_fields.Circuits.{circuitBytes}
+use Rattle.revlib.specs.Grammar.{spaced, numvarsLine, variablesLine, constantsLine, constantsWord, heading, gateLine, body, render}
+use Rattle.logic.specs.Words.{bytes}
 use Rattle.revlib.specs.Grammar.{isIn, different, lowerCase, dataCount, headingOk, lineOk, wireOf, gateByte, recordOf}
 use Rattle.revlib.specs.Reading.{starts, announced, lineAt, lineHere, endHere, linesAt, namesAt, constantsAt, constantsIn, headingHere, restOf, parse, readOf}
 use Rattle.revlib.specs.Writing.{lineFor, lettersFor, constantsFor, describe, textOf}

@@ -3,9 +3,9 @@ use mathlib.Core.Path.{_≡_, refl, sym, ap, _∙_}
 use mathlib.Core.Bool.{Bool, true, false, not, false≢true}
 use mathlib.Core.Logic.{_⊎_, inl, inr, ⊎-elim}
 use mathlib.Core.List.{List, [], _∷_, map}
-use Prim.Native.Nat.{ℕ, zero, suc, _+_, _-_, _*_, _^_, _≤_, _<_}
+use Prim.Native.Nat.{ℕ, _+_, _-_, _*_, _^_, _≤_, _<_}
 use native.Mathlib.Omega.{arith}
-use borrow.Author.Tests.{eqb-true, eqb-false, eq-eqb, ne-eqb, lt-ltb, not-true, leb-true}
+use borrow.Author.Tests.{eqb-true, eqb-false, ne-eqb, lt-ltb, not-true}
 use lib.Count.{ones, onesIn}
 use lib.Dec.{eqb, ltb, leb}
 use lib.ListN.{length, getD, length-map}
@@ -14,9 +14,9 @@ use Rattle.logic.specs.Lists.{allOf}
 use Rattle.logic.proofs.Chain.{both-left, both-right, both-parts, both-true, either-cases, either-neither, implied}
 use Rattle.logic.proofs.Below.{below}
 use Rattle.gate.specs.Gates.{lawful}
-use Rattle.layouts.specs.Layouts.{Width, plain, layoutOk}
-use Rattle.circuit_rules.specs.CircuitRules.{circuitCode}
-use Rattle.circuit_rules.proofs.Written.{circuit-kept}
+use Rattle.table.specs.layouts.Layouts.{Width, plain, layoutOk}
+use Rattle.record.specs.circuit_rules.CircuitRules.{circuitCode}
+use Rattle.record.proofs.circuit_rules.Written.{circuit-kept}
 use Rattle.revlib.specs.Grammar.{Constants, unsaid, allData, oneAncilla, Description, ancillaCount, isIn, different, lowerCase, dataCount, headingOk, declared, lineOk, wellFormed, wireOf, gateByte, recordOf}
 use Rattle.revlib.proofs.Exact.{name-count, line-count}
 

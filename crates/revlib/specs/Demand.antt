@@ -1,4 +1,4 @@
--- What the promises on reading say: when a text fits the form.
+-- When a text fits the form of change request 1, as the promises on reading say it.
 use mathlib.Core.Path.{_≡_}
 use mathlib.Core.Bool.{true}
 use mathlib.Core.List.{List}
@@ -6,7 +6,7 @@ use Prim.Native.Nat.{ℕ, _≤_}
 use lib.ListN.{length}
 use Rattle.revlib.specs.Grammar.{Description, wellFormed, render}
 
--- "The text is at most 4,096 bytes": and it is the rendering of a well-formed description
+-- the text is the rendering of the well-formed description d, and "The text is at most 4,096 bytes"
 pub record Fits (text : List ℕ) (d : Description) : Type 0 where
   pub well : wellFormed d ≡ true
   pub rendered : render d ≡ text

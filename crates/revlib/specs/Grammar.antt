@@ -1,22 +1,23 @@
--- RevLib `.real` text (change request 1): a description, its one rendering as text, the rules of a description, and its record.
+-- RevLib `.real` text (change request 1). A description is what such a text says; it has one rendering as text, rules of its own, and a
+-- circuit record.
 use mathlib.Core.Bool.{Bool, true, false, not}
 use mathlib.Core.List.{List, [], _∷_, _++_, map}
 use Prim.Native.Nat.{ℕ, suc, _+_, _-_, _*_, _^_}
 use lib.Dec.{leb, eqb}
 use lib.ListN.{length, replicate}
-pub use Rattle.logic.specs.Words.{bytes}
 use Rattle.logic.specs.Rules.{both, either, pick}
 use Rattle.logic.specs.Lists.{allOf}
-use Rattle.layouts.specs.Layouts.{plain}
-use Rattle.circuit_fields.specs.Circuits.{circuitBytes}
+use Rattle.table.specs.layouts.Layouts.{plain}
+use Rattle.record.specs.circuit_fields.Circuits.{circuitBytes}
+use Rattle.logic.specs.Words.{bytes}
 
--- the `.constants` line: left out, with a dash for each wire, or with a closing 0 for an ancilla
+-- the `.constants` line: left out, with a dash for each wire, or with a dash for each data wire and a closing 0 for the ancilla
 pub data Constants : Type 0 where
   unsaid : Constants
   allData : Constants
   oneAncilla : Constants
 
--- a gate line is its letters, "target last"
+-- the declared letters, the `.constants` line, and for each gate line its letters, "target last"
 pub record Description : Type 0 where
   pub letters : List ℕ
   pub constants : Constants
@@ -29,7 +30,7 @@ ancillaCount oneAncilla = 1
 
 -- The rendering.
 
--- "one space between words": letters, each after a space
+-- "one space between words": each letter after a space
 unfoldable pub spaced : List ℕ → List ℕ
 spaced [] = []
 spaced (x ∷ xs) = 32 ∷ x ∷ spaced xs
@@ -69,10 +70,12 @@ render d = heading (d .letters) (d .constants) ++ body (d .lines)
 
 -- The rules.
 
+-- x is an element of the list
 unfoldable pub isIn : ℕ → List ℕ → Bool
 isIn x [] = false
 isIn x (y ∷ ys) = either (eqb y x) (isIn x ys)
 
+-- no element stands twice
 unfoldable pub different : List ℕ → Bool
 different [] = true
 different (x ∷ xs) = both (not (isIn x xs)) (different xs)
@@ -91,7 +94,7 @@ headingOk ls c = both (either (eqb (dataCount ls c) 3) (eqb (dataCount ls c) 4))
 abbrev pub declared : List ℕ → ℕ → Bool
 declared ls x = isIn x ls
 
--- one, two or three "different declared letters"
+-- a gate line has one, two or three "different declared letters"
 unfoldable pub lineOk : List ℕ → List ℕ → Bool
 lineOk ls l = both (both (leb 1 (length l)) (leb (length l) 3)) (both (different l) (allOf (declared ls) l))
 
@@ -100,18 +103,18 @@ wellFormed d = both (headingOk (d .letters) (d .constants)) (allOf (lineOk (d .l
 
 -- The record.
 
--- "the first is wire 0"
+-- the wire of a letter: "the first is wire 0"
 unfoldable pub wireOf : List ℕ → ℕ → ℕ
 wireOf [] x = 0
 wireOf (y ∷ ys) x = pick (eqb y x) 0 (suc (wireOf ys x))
 
--- the target in the high three bits, a bit for each control
+-- the byte of a gate line: the target in the high three bits, a bit for each control
 unfoldable pub gateByte : List ℕ → List ℕ → ℕ
 gateByte ls [] = 0
 gateByte ls (t ∷ []) = 32 * wireOf ls t
 gateByte ls (c ∷ d ∷ l) = 2 ^ wireOf ls c + gateByte ls (d ∷ l)
 
--- "a circuit record with plain placing", unmarked, for no line has three controls; "its gate lines are the record's gates in order"
+-- "a circuit record with plain placing", unmarked because no line has three controls; "its gate lines are the record's gates in order"
 unfoldable pub recordOf : Description → List ℕ
 recordOf d =
     let n = dataCount (d .letters) (d .constants) in

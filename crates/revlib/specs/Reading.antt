@@ -1,4 +1,5 @@
--- What a text says: the description that is read off its fixed places, if its rendering is the text; and what the call answers.
+-- Reading `.real` text. A description is read off the fixed places of a text, and it is what the text says if its rendering is the text.
+-- Then what the call that reads a text answers.
 use mathlib.Core.Bool.{Bool, true, false}
 use mathlib.Core.List.{List, [], _∷_, _++_}
 use mathlib.Core.Option.{Option, none, some}
@@ -7,9 +8,10 @@ use lib.Dec.{leb, eqb}
 use lib.ListN.{length, getD, take, drop}
 use Rattle.logic.specs.Rules.{both, pick}
 use Rattle.logic.specs.Answers.{Answer, refused, answered}
-use Rattle.revlib.specs.Grammar.{bytes, Constants, unsaid, allData, oneAncilla, Description, heading, gateLine, headingOk, lineOk, recordOf}
+use Rattle.revlib.specs.Grammar.{Constants, unsaid, allData, oneAncilla, Description, heading, gateLine, headingOk, lineOk, recordOf}
+use Rattle.logic.specs.Words.{bytes}
 
--- the text begins with the word
+-- the text s begins with the word
 unfoldable pub starts : List ℕ → List ℕ → Bool
 starts [] s = true
 starts (x ∷ xs) [] = false
@@ -17,13 +19,15 @@ starts (x ∷ xs) (y ∷ s) = both (eqb y x) (starts xs s)
 
 -- Gate lines.
 
--- how many letters the line's first word announces, or 0
+-- how many letters the first word of a line announces, or 0 where it is none of `t1`, `t2`, `t3`
 unfoldable pub announced : List ℕ → ℕ
 announced s = pick (starts (bytes "t1") s) 1 (pick (starts (bytes "t2") s) 2 (pick (starts (bytes "t3") s) 3 0))
 
+-- the letters of the line at the start of s, as many as announced
 unfoldable pub lineAt : List ℕ → List ℕ
 lineAt s = take (announced s) (getD s 3 0 ∷ getD s 5 0 ∷ getD s 7 0 ∷ [])
 
+-- a gate line in order, of the declared letters ls, stands at the start of s
 unfoldable pub lineHere : List ℕ → List ℕ → Bool
 lineHere ls s = both (lineOk ls (lineAt s)) (starts (gateLine (lineAt s)) s)
 
@@ -31,11 +35,12 @@ lineHere ls s = both (lineOk ls (lineAt s)) (starts (gateLine (lineAt s)) s)
 unfoldable pub endHere : List ℕ → Bool
 endHere s = both (starts (bytes ".end\n") s) (eqb (length s) 5)
 
+-- a line in front of those read after it, if they can be read
 abbrev pub after : List ℕ → Option (List (List ℕ)) → Option (List (List ℕ))
 after l none = none
 after l (some ls) = some (l ∷ ls)
 
--- the gate lines of a text of which n more bytes belong to the line before
+-- the gate lines up to `.end`, if all is in order; the first n bytes belong to the line before and are skipped
 unfoldable pub linesAt : List ℕ → ℕ → List ℕ → Option (List (List ℕ))
 linesAt ls n [] = none
 linesAt ls (suc n) (b ∷ s) = linesAt ls n s
@@ -45,10 +50,11 @@ linesAt ls zero (b ∷ s) =
 
 -- The heading.
 
--- the letters stand at every second place from 35 on, as many as the digit at 22 says
+-- the declared letters: as many as the digit at 22 says, at every second place from 35 on
 unfoldable pub namesAt : List ℕ → List ℕ
 namesAt s = take (getD s 22 0 - 48) (getD s 35 0 ∷ getD s 37 0 ∷ getD s 39 0 ∷ getD s 41 0 ∷ getD s 43 0 ∷ [])
 
+-- whether there is a `.constants` line, and whether its word closes with a 0
 abbrev pub constantsOf : Bool → Bool → Constants
 constantsOf false closing = unsaid
 constantsOf true false = allData
@@ -61,6 +67,7 @@ constantsAt s w = constantsOf (starts (bytes ".constants ") (drop (35 + 2 * w) s
 unfoldable pub constantsIn : List ℕ → Constants
 constantsIn s = constantsAt s (length (namesAt s))
 
+-- a heading in order stands at the start of s
 unfoldable pub headingHere : List ℕ → Bool
 headingHere s = both (headingOk (namesAt s) (constantsIn s)) (starts (heading (namesAt s) (constantsIn s)) s)
 
@@ -68,9 +75,11 @@ abbrev pub described : List ℕ → Constants → Option (List (List ℕ)) → O
 described ls c none = none
 described ls c (some l) = some (record { letters = ls; constants = c; lines = l })
 
+-- the text behind the heading
 unfoldable pub restOf : List ℕ → List ℕ
 restOf s = drop (length (heading (namesAt s) (constantsIn s))) s
 
+-- the description whose rendering the text is, if there is one
 unfoldable pub parse : List ℕ → Option Description
 parse s = pick (headingHere s) (described (namesAt s) (constantsIn s) (linesAt (namesAt s) 0 (restOf s))) none
 
@@ -90,7 +99,7 @@ abbrev pub sizeOf : Answer (List ℕ) → Answer ℕ
 sizeOf (refused code) = refused code
 sizeOf (answered bytes) = answered (length bytes)
 
--- a refusal leaves the buffer; a record is written from byte 0, and later bytes are untouched
+-- the buffer afterwards: a refusal leaves it as it was; a record is written from byte 0, and later bytes are untouched
 abbrev pub written : Answer (List ℕ) → List ℕ → List ℕ
 written (refused code) answer = answer
 written (answered bytes) answer = bytes ++ drop (length bytes) answer

@@ -1,1 +1,2 @@
-// RevLib `.real` text: its grammar, what a text says, and their theorems. No code.
+// RevLib `.real` text (change request 1): its grammar, what reading and writing it answer, and the theorems that reading is exact and
+// undoes writing. Definitions and theorems only, no code: `revlib_reader` reads such text, `revlib_writer` writes it.

@@ -1,4 +1,4 @@
--- Every sample holds. Where one did not, the check would say `Path ℕ ROW 0` with its row.
+-- Every row of the table of samples holds. If one did not, the check would print `Path ℕ ROW 0` with the number of that row.
 use mathlib.Core.Path.{_≡_, refl, ap, _∙_}
 use mathlib.Core.Bool.{Bool, true, false}
 use mathlib.Core.Logic.{⊎-elim}
@@ -10,22 +10,21 @@ use Rattle.logic.specs.Rules.{pick}
 use Rattle.logic.specs.Lists.{allOf, total, along, back}
 use Rattle.gate.specs.Gates.{lawful, step, gateOf}
 use Rattle.circuit.specs.Measure.{weightOf, hold, greatest}
-use Rattle.layouts.specs.Layouts.{layoutOk, allowed, layoutsFor}
+use Rattle.table.specs.layouts.Layouts.{layoutOk, allowed, layoutsFor}
 use Rattle.table.specs.Rows.{rowOk, bitAgrees, rowAgrees, agreesFrom, clean, realizes}
-use Rattle.fields.specs.Jobs.{longer, dataWires, ancillas, wires, freeLayout, gateLimit, costLimit, depthLimit, prices, durations}
+use Rattle.record.specs.job_fields.Jobs.{longer, dataWires, ancillas, wires, freeLayout, gateLimit, costLimit, depthLimit, prices, durations}
 use Rattle.record.specs.JobRules.{jobLengthOk, sizeOk, headOk, limitOk, durationsOk, rowsOk, jobCode}
-use Rattle.circuit_rules.specs.CircuitRules.{circuitLengthOk, shapeOk, circuitCode}
-use Rattle.circuit_fields.specs.Circuits.{marked, layoutOf, countOf, circuitBytes}
-use Rattle.measures.specs.Measures.{measuresOf}
-use Rattle.judging.specs.Judging.{verifyRest}
-use Rattle.verify.specs.Calls.{sameWires, markFits, circuitCodeFor, measureCode, measureOf, verifyCode, verifyOf}
-use Rattle.limits.specs.Limits.{limitsCode}
-use Rattle.runs.specs.Runs.{runCode, runOf}
-use Rattle.permuting.specs.Values.{full, distinct, permutes, smaller, inversions}
-use Rattle.parity.specs.Parity.{tableParity, parityOf}
-use Rattle.choice.specs.Choices.{lexLess, before, keep, attempt, improve, under}
+use Rattle.record.specs.circuit_rules.CircuitRules.{circuitLengthOk, shapeOk, circuitCode}
+use Rattle.record.specs.circuit_fields.Circuits.{marked, layoutOf, countOf, circuitBytes}
+use Rattle.circuit.specs.measures.Measures.{measuresOf}
+use Rattle.verify.specs.Calls.{measureOf, verifyCode, verifyOf, verifyRest}
+use Rattle.record.specs.pair_codes.Codes.{sameWires, markFits, circuitCodeFor, measureCode, runCode, searchCode}
+use Rattle.verify.specs.limits.Limits.{limitsCode}
+use Rattle.verify.specs.runs.Runs.{runOf}
+use Rattle.parity.specs.Parity.{tableParity, parityOf, full, distinct, permutes, smaller, inversions}
+use Rattle.problem.specs.order.Choices.{lexLess, before, keep, attempt, improve, under}
 use Rattle.problem.specs.Problems.{choiceOf, here, within, firstGood}
-use Rattle.outcomes.specs.Outcomes.{problemOver, recordOf, searchOver, searchCode, searchOf}
+use Rattle.outcomes.specs.Outcomes.{problemOver, recordOf, searchOver, searchOf}
 use Rattle.samples.specs.Table.{Sample, holds, samples, failing}
 
 pub all-hold : failing 1 samples ≡ 0

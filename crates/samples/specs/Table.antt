@@ -1,5 +1,5 @@
--- The samples marked P in document 01, and a smallest record for each refusal number, as rows of one table.
--- Gate bytes of document 01's samples stand in decimal, with its hexadecimal beside them.
+-- The samples marked P in document 01, and a smallest record for each refusal code, as rows of one table. Gate bytes stand in decimal; a
+-- comment gives the hexadecimal of document 01.
 use Prim.Native.Nat.{ℕ, suc, _+_}
 use mathlib.Core.Bool.{Bool, true, false, not}
 use mathlib.Core.List.{List, [], _∷_, map}
@@ -13,16 +13,17 @@ use Rattle.gate.specs.Gates.{maskOf, lawful, step, gateOf}
 use Rattle.circuit.specs.declared.Weights.{Weights}
 use Rattle.circuit.specs.Measure.{weightOf, cost, depth}
 use Rattle.record.specs.JobRules.{jobCode}
-use Rattle.circuit_rules.specs.CircuitRules.{circuitCode}
+use Rattle.record.specs.circuit_rules.CircuitRules.{circuitCode}
 use Rattle.record.specs.Answers.{checkOf}
-use Rattle.measures.specs.declared.Measures.{Measures}
-use Rattle.measures.specs.Measures.{readyOf}
+use Rattle.circuit.specs.declared.measures.Measures.{Measures}
+use Rattle.circuit.specs.measures.Measures.{readyOf}
 use Rattle.verify.specs.Calls.{measureOf, verifyOf}
-use Rattle.runs.specs.Runs.{forwardsOf, backwardsOf}
+use Rattle.verify.specs.runs.Runs.{forwardsOf, backwardsOf}
 use Rattle.parity.specs.Parity.{Parity, even, odd, neither, parityOf}
-use Rattle.choice.specs.Choices.{lexLess}
+use Rattle.problem.specs.order.Choices.{lexLess}
 use Rattle.outcomes.specs.Outcomes.{Found, searchOf}
 
+-- a row of the table: which definition it is about, its arguments, and the result
 pub data Sample : Type 0 where
   toffoli : (byte target low high : ℕ) → Sample
   turns : (byte value result : ℕ) → Sample
@@ -46,6 +47,7 @@ pub data Sample : Type 0 where
   finds : (job circuit : List ℕ) → Sample
   searchRefused : (job : List ℕ) (room code : ℕ) → Sample
 
+-- the kind is a Toffoli with the controls a and b
 abbrev toffoliOn : Kind → ℕ → ℕ → Bool
 toffoliOn Not a b = false
 toffoliOn (Cnot c) a b = false
@@ -59,7 +61,7 @@ samplePrices = record { not = 1; cnot = 1; toffoli = 5; cccnot = 0 }
 abbrev pub sampleDurations : Weights
 sampleDurations = record { not = 1; cnot = 1; toffoli = 7; cccnot = 0 }
 
--- a job of four data wires that wants every bit of these values
+-- a job of four data wires and wide limits that wants every bit of these values
 abbrev full4 : List ℕ → List ℕ
 full4 values = 0x80 ∷ 12 ∷ 255 ∷ 255 ∷ 255 ∷ 255 ∷ 1 ∷ 1 ∷ 5 ∷ 1 ∷ 1 ∷ 7 ∷ map (λ v. 0xF0 + v) values
 
@@ -79,22 +81,22 @@ exchanged = map (λ v. 0xF0 + v) (0 ∷ 1 ∷ 2 ∷ 3 ∷ 4 ∷ 5 ∷ 6 ∷ 15 �
 abbrev two : ℕ → ℕ → List ℕ
 two x y = x ∷ y ∷ 0 ∷ 0 ∷ 0 ∷ 0 ∷ 0 ∷ 0 ∷ []
 
--- three data wires, no bit wanted, within these limits
+-- a job of three data wires that wants no bit, with these limits
 abbrev anything : (gates cost depth : ℕ) → List ℕ
 anything gates cost depth = short 0x60 gates cost depth 1 (two 0 0)
 
--- eight rows that want every bit of these values
+-- a job of three data wires and limits 0 that wants every bit of these values
 abbrev full3 : List ℕ → List ℕ
 full3 values = short 0x60 0 0 0 1 (map (λ v. 0x70 + v) values)
 
--- a circuit of three data wires with plain layout
+-- circuits of three data wires with plain layout: without a gate, and with one NOT
 abbrev empty : List ℕ
 empty = 0x60 ∷ 0x18 ∷ 0 ∷ []
 
 abbrev oneNot : List ℕ
 oneNot = 0x60 ∷ 0x18 ∷ 1 ∷ 0x00 ∷ []
 
--- an answer, compared
+-- tests of an answer
 abbrev refusedBy : {A : Type 0} → ℕ → Answer A → Bool
 refusedBy code (refused n) = eqb n code
 refusedBy code (answered a) = false
@@ -127,6 +129,7 @@ abbrev givesParity : Parity → Answer Parity → Bool
 givesParity p (refused n) = false
 givesParity p (answered q) = eqb (parityNumber q) (parityNumber p)
 
+-- a row holds: the definition gives the result
 unfoldable pub holds : Sample → Bool
 holds (toffoli b t low high) = both (eqb (gateOf b .target) t) (toffoliOn (gateOf b .kind) low high)
 holds (turns b v r) = eqb (step b v) r
@@ -150,6 +153,7 @@ holds (verifyRefused job c n) = refusedBy n (verifyOf job c)
 holds (finds job c) = givesRecord c (searchOf job 15)
 holds (searchRefused job room n) = refusedBy n (searchOf job room)
 
+-- the samples of document 01 first, then a smallest record for each refusal code, with its neighbours that pass
 unfoldable pub samples : List Sample
 samples =
     toffoli 67 2 0 1  -- 43 is a Toffoli on wire 2 with controls 0 and 1
@@ -227,7 +231,7 @@ samples =
     ∷ finds (long 0x60 0 0 0 11 (two 0x10 0x11)) (0x61 ∷ 0x18 ∷ 0 ∷ [])  -- marked, with no gate at all
     ∷ []
 
--- the number of the first row that does not hold, counted from i, or 0
+-- the number of the first row that does not hold, where the first row has the number i; 0 if all hold
 unfoldable pub failing : ℕ → List Sample → ℕ
 failing i [] = 0
 failing i (s ∷ ss) = pick (holds s) (failing (suc i) ss) i

@@ -1,9 +1,9 @@
--- What the search asks of the solver. No public contract cites this.
+-- The solver's task for a job, for the contract of `task_of`. No public contract cites this.
 use mathlib.Core.List.{List}
 use Prim.Native.Nat.{ℕ}
-use Rattle.fields.specs.Jobs.{mostControls, dataWires, freeLayout, gateLimit, costLimit, depthLimit, rows}
+use Rattle.record.specs.job_fields.Jobs.{mostControls, dataWires, freeLayout, gateLimit, costLimit, depthLimit, rows}
 use Rattle.columns.specs.Wanted.{wantedOf}
-use Rattle.states.specs.declared.Task.{Task}
+use Rattle.walk.specs.declared.node.Task.{Task}
 
 unfoldable pub taskOf : List ℕ → Task
 taskOf job = record {

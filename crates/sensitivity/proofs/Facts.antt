@@ -18,21 +18,22 @@ use Rattle.logic.proofs.Chain.{both-right, both-parts, both-true, either-second
 use Rattle.logic.proofs.Counts.{all-below, some-at}
 use Rattle.circuit.specs.Measure.{cost}
 use Rattle.record.specs.JobRules.{jobCode}
-use Rattle.fields.specs.Jobs.{longer, dataWires, ancillas, costLimit}
-use Rattle.circuit_fields.specs.Circuits.{gates}
+use Rattle.record.specs.job_fields.Jobs.{longer, dataWires, ancillas, costLimit, Bytes}
+use Rattle.record.specs.circuit_fields.Circuits.{gates}
 use Rattle.record.proofs.Kept.{sound-job}
-use Rattle.circuit_rules.proofs.Written as Written
-use Rattle.measures.specs.declared.Measures.{Measures}
-use Rattle.measures.specs.Measures.{measuresOf}
-use Rattle.problem.specs.Demand.{Winner}
+use Rattle.record.proofs.circuit_rules.Written as Written
+use Rattle.circuit.specs.declared.measures.Measures.{Measures}
+use Rattle.circuit.specs.measures.Measures.{measuresOf}
+use Rattle.problem.specs.Demand.{Winner, Roomy}
 use Rattle.outcomes.specs.Outcomes.{problemOver, problemOf, recordOf, Found, reported, searchOf}
 use Rattle.outcomes.proofs.Facts as Search
-use Rattle.alike.specs.Alike.{priceCount, pricePlace, sameBut, alikeBut, onePrice, comparable, compareCode, costDifference}
+use Rattle.sensitivity.specs.alike.Alike.{priceCount, pricePlace, sameBut, alikeBut, onePrice, comparable, compareCode, costDifference}
 use Rattle.sensitivity.specs.Calls.{changeBetween, priceChange}
-use Rattle.repriced.specs.Demand.{ofKind, kindCount, Roomy, Bytes}
-use Rattle.signed_costs.proofs.Whole.{no-less, no-more, no-change}
-use Rattle.repriced.proofs.Problems.{turned, solves-too, winners-apart}
-use Rattle.repriced.proofs.Jobs.{Changed, changed-is, other-way, alike, raised, roomy}
+use Rattle.sensitivity.specs.repriced.Demand.{ofKind, kindCount}
+use Rattle.sensitivity.proofs.difference.Whole.{no-less, no-more, no-change}
+use Rattle.sensitivity.proofs.repriced.Problems.{turned, solves-too, winners-apart}
+use Rattle.sensitivity.proofs.repriced.Jobs.{Changed, changed-is, other-way, alike, raised}
+use Rattle.outcomes.proofs.Limits.{roomy}
 
 -- what two jobs that may be compared are known to be
 pub record Compared (old new : List ℕ) : Type 0 where

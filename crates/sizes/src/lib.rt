@@ -1,20 +1,28 @@
-// The sheet of least gate counts: a cell for each permutation of three wires, in dictionary order.
+// The least gate count of each permutation of three wires. The call `fill` writes all 40,320 of them to a lent buffer, the sheet (document
+// 02, slip 4). A cell is one byte of the sheet: the cell at a permutation's place, in dictionary order of its eight values, holds the least
+// number of gates that make the permutation. A caller gets the whole sheet, or 25 for a buffer of another length.
+// The sheet is filled breadth first. Two permutations are neighbors where one gate makes the one of the other. A sweep goes over all cells
+// once: an empty cell (255) becomes k + 1 where a neighbor's cell holds k.
+pub mod neighbors; // the place of a permutation's neighbor by a gate
+pub mod permutations; // definitions and theorems: permutations in dictionary order, and their least gate counts (no code)
+
+use gate::gate_tables;
 ghost use mathlib.Core.Path.{_≡_};
 ghost use Prim.Native.Nat.{ℕ, suc, _<_};
 ghost use lib.Dec.{eqb};
 ghost use lib.ListN.{length, getD};
 ghost use Rattle.logic.specs.Rules.{pick};
-ghost use Rattle.permutations.specs.Sizes.{twelve};
-ghost use Rattle.permutations.specs.Inner.{apart, grown, Level};
+ghost use Rattle.sizes.specs.permutations.Sizes.{twelve};
+ghost use Rattle.sizes.specs.permutations.Inner.{apart, grown, Level};
 ghost use Rattle.sizes.specs.Sheet.{fillOf, cellsLeft, filledAnswer};
 
-// What filling a buffer answers: a refusal's number, or that the whole sheet is there.
+// The answer: a refusal code, or that the whole sheet was filled.
 pub enum Filled {
     Refused(u8),
     Whole,
 }
 
-// Whether no neighbor of place r holds k.
+// Whether no neighbor of the permutation at place `r` has a cell that holds `k`.
 fn apart(gates: &[u8], cells: &[u8], r: usize, k: u8) -> bool
     requires { ⌜ now gates ≡ twelve ⌝ }
     ensures { λ t. ⌜ t ≡ apart (now (gates .entry)) (now (cells .entry)) r k ⌝ }
@@ -30,7 +38,7 @@ fn apart(gates: &[u8], cells: &[u8], r: usize, k: u8) -> bool
     true
 }
 
-// What place r holds after a sweep for k + 1 gates: where nothing shorter does, one gate more than a neighbor's.
+// The cell at place `r` after the sweep for k + 1 gates: an empty cell takes k + 1 where a neighbor holds `k`; any other stays.
 fn grown(gates: &[u8], cells: &[u8], r: usize, k: u8) -> u8
     requires { ⌜ now gates ≡ twelve ⌝ }
     requires { ⌜ k < 254 ⌝ }
@@ -47,7 +55,7 @@ fn grown(gates: &[u8], cells: &[u8], r: usize, k: u8) -> u8
     }
 }
 
-// A sweep for k + 1 gates. Cells that it has filled hold k + 1 and so change nothing for those after them.
+// The sweep for k + 1 gates, in place: a cell filled on the way holds k + 1, not `k`, and so does not count for later cells.
 fn grow(gates: &[u8], cells: &mut [u8], k: u8)
     requires { ⌜ now gates ≡ twelve ⌝ }
     requires { ⌜ length (now cells) ≡ 40320 ⌝ }
@@ -63,7 +71,7 @@ fn grow(gates: &[u8], cells: &mut [u8], k: u8)
     }
 }
 
-// A sweep for each number of gates that a byte can hold. Once all cells are filled a sweep does nothing.
+// The sweeps for 1 to 254 gates, all counts that a cell can hold. Once every cell is filled, a sweep changes nothing.
 fn grow_all(gates: &[u8], cells: &mut [u8])
     requires { ⌜ now gates ≡ twelve ⌝ }
     requires { ⌜ length (now cells) ≡ 40320 ⌝ }
@@ -77,14 +85,14 @@ fn grow_all(gates: &[u8], cells: &mut [u8])
     }
 }
 
-// What place r holds at first: the first permutation needs no gate.
+// The cell at place `r` before the first sweep: the first permutation, the identity, needs no gate, and every other cell is empty.
 fn fresh(r: usize) -> u8
     ensures { λ c. ⌜ c ≡ pick (eqb r 0) 0 255 ⌝ }
 {
     if r == 0 { 0 } else { 255 }
 }
 
-// Sets every cell to what it holds at first.
+// Sets every cell to its value before the first sweep.
 fn clear(cells: &mut [u8])
     ensures { λ _. ⌜ length (now (cells .exit)) ≡ length (now (cells .entry)) ⌝ }
     ensures { λ _. ⌜ ((s : ℕ) → s < length (now (cells .entry)) → getD (now (cells .exit)) s 0 ≡ pick (eqb s 0) 0 255) ⌝ }
@@ -96,7 +104,7 @@ fn clear(cells: &mut [u8])
     }
 }
 
-// Fills a buffer of 40,320 bytes with the least gate counts.
+// Fills a buffer of 40,320 bytes with the sheet of least gate counts.
 pub fn fill(cells: &mut [u8]) -> Filled
     ensures { λ r. ⌜ filledAnswer r ≡ fillOf (now (cells .entry)) ⌝ }
     ensures { λ _. ⌜ now (cells .exit) ≡ cellsLeft (now (cells .entry)) ⌝ }

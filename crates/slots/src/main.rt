@@ -1,15 +1,20 @@
-// Works through the jobs of a file in eight slots: `slots FILE`. Each job's line is printed as it is collected, with the turn it finished in.
+// `slots FILE`: works through the jobs of a file in eight slots that take turns, and prints the line of each job as soon as its answer is
+// collected, with the number of turns taken by then.
+use batch::cutting;
+use console::output;
+use console::slot_lines;
 use outcomes::Searched;
-use slot_states::Posting;
-use slot_states::Service;
-use slot_states::Slots;
+use scheduler::states;
+use scheduler::states::Posting;
+use scheduler::states::Service;
+use scheduler::states::Slots;
 ghost use mathlib.Core.Path.{_≡_};
 ghost use Prim.Native.Nat.{_≤_, _<_};
-ghost use Rattle.cutting.specs.Records.{countOf};
+ghost use Rattle.batch.specs.cutting.Records.{countOf};
 
 fn main() {
     if os::arg_count() != 2 {
-        slot_lines::say(b"usage: slots FILE\n");
+        output::say(b"usage: slots FILE\n");
         return;
     }
     let mut name = io::buffer();
@@ -17,11 +22,11 @@ fn main() {
     run_file(&name[..n]);
 }
 
-// Works through the jobs of a file, as many bytes as a batch can have and one more.
+// Works through the jobs of a file. A buffer is longer than any batch, so a file that does not fit is refused all the same.
 fn run_file(name: &[u8]) {
     let file = os::open_read(name);
     if file < 0 {
-        slot_lines::say_unreadable(name);
+        output::say_unreadable(name);
         return;
     }
     let mut jobs = io::buffer();
@@ -30,8 +35,8 @@ fn run_file(name: &[u8]) {
     run_jobs(&jobs[..n]);
 }
 
-// Jobs on their way through the slots: the next job of the file, the slot to post it to (8 for none), which job each slot has, and the turns
-// so far.
+// How far the work has come: the slots, the next job of the file, the first slot to try for it (8 for none), which job each
+// slot has, the turns taken, and whether all is done.
 pub struct Work {
     pub slots: Slots,
     pub next: usize,
@@ -41,21 +46,19 @@ pub struct Work {
     pub done: bool,
 }
 
-// The turns, one more; there are fewer than 2^64 in any run.
+// One turn more. No run takes 2^64 of them, so the count never stops.
 fn one_more(n: u64) -> u64 {
     if n < 18446744073709551615 { n + 1 } else { n }
 }
 
 // Says which job was answered, counted from 1, and after how many turns.
 fn say_heading(job: usize, turns: u64) {
-    slot_lines::say(b"job ");
-    slot_lines::say_number(job as u64);
-    slot_lines::say(b" turn ");
-    slot_lines::say_number(turns);
-    slot_lines::say(b": ");
+    output::say_count(b"job ", job as u64);
+    output::say_count(b" turn ", turns);
+    output::say(b": ");
 }
 
-// A job that is refused is answered at once; one whose slot is taken waits for another slot.
+// What follows a refused post: where the slot is taken (36), the next slot is tried; any other refusal is the job's answer.
 fn after_refusal(w: Work, code: u8) -> Work
     requires { ⌜ (w .next < 64) × (w .free < 8) ⌝ }
 {
@@ -70,7 +73,7 @@ fn after_refusal(w: Work, code: u8) -> Work
     next
 }
 
-// Posts the next job.
+// Posts the next job to the slot that is to be tried.
 fn post_next(jobs: &[u8], w: Work) -> Work
     requires { ⌜ (w .next < countOf (now jobs)) × ((w .next < 64) × (w .free < 8)) ⌝ }
 {
@@ -100,7 +103,7 @@ fn post_next(jobs: &[u8], w: Work) -> Work
     }
 }
 
-// Collects the answer of the slot that was served, if it is finished; the slot is then free.
+// Collects the answer of the slot that was served, if it is finished, and says it. The slot is then free.
 fn collect_served(w: Work, which: usize) -> Work {
     let mut answer = [0u8; 15];
     let collected = scheduler::collect(w.slots, which, &mut answer);
@@ -122,6 +125,7 @@ fn collect_served(w: Work, which: usize) -> Work {
     }
 }
 
+// Whether a collect was refused because the slot is not finished (37).
 fn is_unfinished(told: Searched) -> bool {
     match told {
         Searched::Refused(code) => code == 37,
@@ -138,7 +142,7 @@ fn counted(number: u8) -> usize {
     logic::wide(number) + 1
 }
 
-// One turn; where no slot is working, the work is done.
+// Takes a turn. Where no slot is working, the work is done.
 fn take_turn(w: Work) -> Work {
     let turned = scheduler::turn(w.slots);
     let slots = turned.slots;
@@ -157,7 +161,7 @@ fn take_turn(w: Work) -> Work {
     }
 }
 
-// Posts a job where there is one and a slot for it, and else takes a turn.
+// Posts the next job, if there is one and a slot to try for it, and else takes a turn.
 fn step(jobs: &[u8], count: usize, w: Work) -> Work
     requires { ⌜ (count ≡ countOf (now jobs)) × (count ≤ 64) ⌝ }
 {
@@ -170,14 +174,14 @@ fn step(jobs: &[u8], count: usize, w: Work) -> Work
     post_next(jobs, w)
 }
 
-// Works through jobs back to back, and says the line of each as it is collected.
+// Works through jobs that stand back to back, and says the line of each as it is collected.
 fn run_jobs(jobs: &[u8]) {
     let cut = cutting::cut_off(jobs);
     if cut.end != jobs.len() {
         slot_lines::say_refused(26);
         return;
     }
-    let slots = slot_states::start();
+    let slots = states::start();
     let mut work = Work {
         slots,
         next: 0,

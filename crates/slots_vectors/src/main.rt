@@ -1,8 +1,13 @@
-// Runs the script of posts, turns and collects that tools/slots_vectors.py writes, and prints the answer to each call.
+// A test program of the scheduler: runs the script of posts, turns and collects that tools/slots_vectors.py writes, and prints the answer
+// to each call. A script is a list of records of 40 bytes; byte 0 says which call a record is.
+use console::data_lines;
+use console::output;
+use console::slot_lines;
 use outcomes::Searched;
-use slot_states::Posting;
-use slot_states::Service;
-use slot_states::Slots;
+use scheduler::states;
+use scheduler::states::Posting;
+use scheduler::states::Service;
+use scheduler::states::Slots;
 ghost use mathlib.Core.Path.{_≡_};
 ghost use lib.ListN.{length};
 
@@ -12,44 +17,38 @@ fn main() {
 
 // Runs the script in a file of fewer than 65,536 bytes.
 fn run_script_file(name: &[u8]) {
-    let file = os::open_read(name);
-    if file < 0 {
-        slot_lines::say_unreadable(name);
-        return;
-    }
-    let mut text = io::large_buffer();
-    let n = io::read_full(file, &mut text);
-    libc::close(file);
-    run_script(&text[..n]);
+    let mut script = io::large_buffer();
+    let n = data_lines::read_file(name, &mut script);
+    run_script(&script[..n]);
 }
 
-// A post of a script: byte 1 is the slot, byte 2 the length of the job, which stands from byte 4 on.
+// Posts a job: byte 1 is the slot, byte 2 the length of the job, which stands from byte 4 on.
 fn script_post(slots: Slots, rec: &[u8]) -> Slots
     requires { ⌜ length (now rec) ≡ 40 ⌝ }
 {
     let which = logic::wide(logic::at(rec, 1));
-    let end = 4 + slot_lines::least(logic::wide(logic::at(rec, 2)), 36);
+    let end = 4 + logic::lesser(logic::wide(logic::at(rec, 2)), 36);
     let posted = scheduler::post(slots, which, &rec[4..end]);
     let answer = posted.answer;
     match answer {
-        Posting::Accepted => slot_lines::say(b"accepted\n"),
+        Posting::Accepted => output::say(b"accepted\n"),
         Posting::Refused(code) => slot_lines::say_refused(code),
     }
     posted.slots
 }
 
-// Turns of a script: byte 2 says how many. Each says which slot it served.
+// Takes as many turns as byte 2 says, and says which slot each served.
 fn script_turns(slots: Slots, rec: &[u8]) -> Slots {
     let count = logic::at(rec, 2);
     let mut now = slots;
     let mut i = 0;
-    slot_lines::say(b"turns");
+    output::say(b"turns");
     while i < count {
         let next = script_turn(now);
         now = next;
         i += 1;
     }
-    slot_lines::say(b"\n");
+    output::say(b"\n");
     now
 }
 
@@ -57,19 +56,16 @@ fn script_turn(slots: Slots) -> Slots {
     let turned = scheduler::turn(slots);
     let answer = turned.answer;
     match answer {
-        Service::Idle => slot_lines::say(b" -"),
-        Service::Slot(i) => {
-            slot_lines::say(b" ");
-            slot_lines::say_number(i as u64);
-        }
+        Service::Idle => output::say(b" -"),
+        Service::Slot(i) => output::say_count(b" ", i as u64),
     }
     turned.slots
 }
 
-// A collect of a script: byte 1 is the slot, byte 2 the room for the answer.
+// Collects an answer: byte 1 is the slot, byte 2 the room for the answer.
 fn script_collect(slots: Slots, rec: &[u8]) -> Slots {
     let which = logic::wide(logic::at(rec, 1));
-    let room = slot_lines::least(logic::wide(logic::at(rec, 2)), 20);
+    let room = logic::lesser(logic::wide(logic::at(rec, 2)), 20);
     let mut answer = [0u8; 20];
     collect_into(slots, which, &mut answer[..room])
 }
@@ -82,22 +78,13 @@ fn collect_into(slots: Slots, which: usize, answer: &mut [u8]) -> Slots {
     collected.slots
 }
 
-// Says the ready times of what was found, a line.
+// Says the ready times of what was found, on a line of their own.
 fn say_ready(told: Searched) {
     match told {
         Searched::Refused(_) => return,
         Searched::Found(_, m) => {
-            slot_lines::say(b"ready ");
-            slot_lines::say_number(m.ready0 as u64);
-            slot_lines::say(b" ");
-            slot_lines::say_number(m.ready1 as u64);
-            slot_lines::say(b" ");
-            slot_lines::say_number(m.ready2 as u64);
-            slot_lines::say(b" ");
-            slot_lines::say_number(m.ready3 as u64);
-            slot_lines::say(b" ");
-            slot_lines::say_number(m.ready4 as u64);
-            slot_lines::say(b"\n");
+            slot_lines::say_ready(m);
+            output::say(b"\n");
         }
     }
 }
@@ -112,9 +99,9 @@ fn script_call(slots: Slots, rec: &[u8]) -> Slots
     }
 }
 
-// Runs a script, records of 40 bytes, from the start, and says the answer to each.
+// Runs the calls of a script, from eight empty slots on, and says the answer to each.
 fn run_script(script: &[u8]) {
-    let mut slots = slot_states::start();
+    let mut slots = states::start();
     let mut at = 0;
     while 40 <= script.len() - at {
         let end = at + 40;

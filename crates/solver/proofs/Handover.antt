@@ -1,16 +1,16 @@
 -- One search after the other, with one filter or another: what each leaves to the next.
-use mathlib.Core.Path.{_≡_, refl, sym, _∙_, subst}
+use mathlib.Core.Path.{_≡_, sym, _∙_, subst}
 use mathlib.Core.Bool.{true, false, true≢false}
 use mathlib.Core.Option.{none}
 use Prim.Native.Nat.{ℕ, _+_, _-_, _≤_}
 use native.Mathlib.Omega.{arith}
-use Rattle.choice.specs.declared.Best.{Best}
-use Rattle.choice.specs.Inner.{view}
+use Rattle.problem.specs.declared.order.Best.{Best}
+use Rattle.problem.specs.order.Inner.{view}
 use Rattle.problem.specs.Problems.{Problem, firstGood}
 use Rattle.problem.specs.Inner.{Past}
 use Rattle.problem.proofs.Limits.{never}
 use Rattle.solver.specs.declared.Outcome.{Outcome}
-use Rattle.deepening.specs.Deepening.{Deepened}
+use Rattle.solver.specs.deepening.Deepening.{Deepened}
 use Rattle.solver.specs.States.{Settled}
 
 module _ (P : Problem) where
@@ -21,7 +21,7 @@ module _ (P : Problem) where
   pub settled-held : (a b : ℕ) (o : Outcome) → o .done ≡ true → Settled P a o → Settled P b o
   settled-held a b o f s = record { failed = λ e. absurd (true≢false (sym f ∙ e)); first = s .first }
 
-  -- where nothing is held, nothing was found
+  -- where there is no incumbent, nothing was found
   pub deepened-none : (limit a : ℕ) (r : Best) → r .found ≡ false → Past P limit (a + 1) → Deepened P limit a r
   deepened-none limit a r f p = record { failed = λ e. p; first = λ e. absurd (true≢false (sym e ∙ f)) }
 

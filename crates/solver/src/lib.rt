@@ -1,42 +1,51 @@
-// The search for the first good choice of a problem: one walk after the other, by gates and by cost, with filters where they pay. It takes
-// slices of gates, prices and durations, and knows no job; its contracts speak of every problem that the arguments pose.
-use choice::Best;
-use hashes::Reach;
-use states::Least;
-use states::Task;
+// The solver: the search for the first good choice of a problem, by iterative deepening. It looks for a feasible circuit of the fewest
+// gates, the incumbent (`held`), and then for a cheaper one. Each walk prunes by a filter where that is worth the time to fill it. The
+// solver takes slices of gates, prices and durations, and knows no job; its contracts speak of every problem that the arguments pose.
+//
+// prospects: the lower bounds, and which filter is worth its time. deepening: rising counts of gates, and rising costs. cheaper: the search
+// below the incumbent's cost.
+pub mod cheaper;
+pub mod deepening;
+pub mod prospects;
+
+use crate::deepening::Counts;
+use problem::best;
+use problem::order::Best;
+use reach_filter::filter;
+use walk::node::Least;
+use walk::node::Setup;
+use walk::node::Task;
 ghost use mathlib.Core.Path.{_≡_};
 ghost use mathlib.Core.Bool.{true, false};
 ghost use mathlib.Core.Option.{none};
 ghost use Prim.Native.Nat.{ℕ, _+_, _-_, _≤_, _<_};
-ghost use Rattle.circuit.specs.Measure.{cost};
-ghost use Rattle.choice.specs.Inner.{view};
+ghost use Rattle.problem.specs.order.Inner.{view};
 ghost use Rattle.problem.specs.Problems.{Problem, firstGood};
-ghost use Rattle.states.specs.declared.Task.{Task};
-ghost use Rattle.states.specs.States.{Slices, Supplied, Fair, Ready, Posed, Limited, Bounded};
-ghost use Rattle.deepening.specs.Deepening.{Deepened};
+ghost use Rattle.walk.specs.declared.node.Task.{Task};
+ghost use Rattle.walk.specs.node.States.{Slices, Supplied, Fair, Ready, Posed, Limited, Bounded, Given};
+ghost use Rattle.solver.specs.deepening.Deepening.{Deepened};
 ghost use Rattle.solver.specs.States.{Settled};
 
-// A search that came to an end, or has yet to go on to more gates.
+// What a search has come to: it is done, with the answer, or it has to go on to more gates.
 pub struct Outcome {
     pub done: bool,
     pub best: Best,
 }
 
-// What is held, or the first of the lists that cost less; nothing is done where nothing is held.
+// The answer, where there is an incumbent; without one the search is not done.
 fn settle(
     gates: &[u8],
     prices: &[u8],
     durations: &[u8],
-    task: Task,
-    least: Least,
+    setup: Setup,
     held: Best,
     bits: &[u64],
-    reach: Reach,
 ) -> Outcome
-    requires { ⌜ Supplied (now gates) (now prices) (now durations) task (now bits) reach ⌝ }
-    requires { ⌜ Ready task least × (task .«gate_limit» ≤ 12) ⌝ }
+    requires { ⌜ Supplied (now gates) (now prices) (now durations) (setup .task) (now bits) (setup .reach) ⌝ }
+    requires { ⌜ Ready (setup .task) (setup .least) × (setup .task .«gate_limit» ≤ 12) ⌝ }
     requires { ⌜ held .len ≤ 12 ⌝ }
-    ensures { λ r. ⌜ ((P : Problem) (most : ℕ) → Posed P task (now (gates .entry)) (now (prices .entry)) (now (durations .entry)) → Bounded P least → Limited P task → Deepened P (P .mostCost) most held → Settled P most r) ⌝ }
+    ensures { λ r. ⌜ ((P : Problem) (most : ℕ) → Given P setup (now (gates .entry)) (now (prices .entry)) (now (durations .entry))
+        → Limited P (setup .task) → Deepened P (P .mostCost) most held → Settled P most r) ⌝ }
     ensures { λ r. ⌜ r .best .len ≤ 12 ⌝ }
 {
     if !held.found {
@@ -45,48 +54,37 @@ fn settle(
             best: held,
         };
     }
-    let best = bids::bid_from(gates, prices, durations, task, least, held, 0, bits, reach);
+    let best = cheaper::cheapest_from(gates, prices, durations, setup, held, 0, bits);
     Outcome { done: true, best }
 }
 
-// What is held, or the fewest gates from `from` on.
+// The incumbent, or, where there is none, a list of the fewest gates, among these counts.
 fn go_on(
     gates: &[u8],
     prices: &[u8],
     durations: &[u8],
-    task: Task,
-    least: Least,
+    setup: Setup,
     held: Best,
-    from: usize,
-    most: usize,
+    counts: Counts,
     bits: &[u64],
-    reach: Reach,
 ) -> Best
-    requires { ⌜ Supplied (now gates) (now prices) (now durations) task (now bits) reach ⌝ }
-    requires { ⌜ Ready task least × ((from ≤ most) × (most ≤ 12)) ⌝ }
-    requires { ⌜ (1 ≤ from) × (held .len ≤ 12) ⌝ }
-    ensures { λ r. ⌜ ((P : Problem) → Posed P task (now (gates .entry)) (now (prices .entry)) (now (durations .entry)) → Bounded P least → Limited P task → most ≤ P .mostGates → Deepened P (P .mostCost) (from - 1) held → Deepened P (P .mostCost) most r) ⌝ }
+    requires { ⌜ Supplied (now gates) (now prices) (now durations) (setup .task) (now bits) (setup .reach) ⌝ }
+    requires { ⌜ Ready (setup .task) (setup .least) × ((counts .from ≤ counts .most) × (counts .most ≤ 12)) ⌝ }
+    requires { ⌜ (1 ≤ counts .from) × (held .len ≤ 12) ⌝ }
+    ensures { λ r. ⌜ ((P : Problem) → Given P setup (now (gates .entry)) (now (prices .entry)) (now (durations .entry))
+        → Limited P (setup .task) → counts .most ≤ P .mostGates → Deepened P (P .mostCost) (counts .from - 1) held
+        → Deepened P (P .mostCost) (counts .most) r) ⌝ }
     ensures { λ r. ⌜ r .len ≤ 12 ⌝ }
 {
     if held.found {
         return held;
     }
     let none = [0u8; 0];
-    deepening::fewest(
-        gates,
-        prices,
-        durations,
-        task,
-        least,
-        from,
-        most,
-        bits,
-        reach,
-        &none,
-    )
+    deepening::fewest(gates, prices, durations, setup, counts, bits, &none)
 }
 
-// One filter, and the search with it: for the fewest gates from `from` to `most`, if nothing is held yet, and then for lists that cost less.
+// One stage: a filter is filled, and the search goes on with it, for the fewest gates among these counts where there is no incumbent yet,
+// and then for a cheaper one.
 fn stage(
     gates: &[u8],
     prices: &[u8],
@@ -94,20 +92,20 @@ fn stage(
     task: Task,
     least: Least,
     held: Best,
-    from: usize,
-    most: usize,
+    counts: Counts,
     bits: &mut [u64],
 ) -> Outcome
     requires { ⌜ Slices (now gates) (now prices) (now durations) ⌝ }
     requires { ⌜ Ready task least × (task .«gate_limit» ≤ 12) ⌝ }
-    requires { ⌜ (1 ≤ from) × ((from ≤ most) × (most ≤ 12)) ⌝ }
+    requires { ⌜ (1 ≤ counts .from) × ((counts .from ≤ counts .most) × (counts .most ≤ 12)) ⌝ }
     requires { ⌜ held .len ≤ 12 ⌝ }
-    ensures { λ r. ⌜ ((P : Problem) → Posed P task (now (gates .entry)) (now (prices .entry)) (now (durations .entry)) → Bounded P least → Limited P task → most ≤ P .mostGates → Deepened P (P .mostCost) (from - 1) held → Settled P most r) ⌝ }
+    ensures { λ r. ⌜ ((P : Problem) → Posed P task (now (gates .entry)) (now (prices .entry)) (now (durations .entry)) → Bounded P least
+        → Limited P task → counts .most ≤ P .mostGates → Deepened P (P .mostCost) (counts .from - 1) held → Settled P (counts .most) r) ⌝ }
     ensures { λ r. ⌜ r .best .len ≤ 12 ⌝ }
 {
     let wanted = task.wanted;
-    let radius = prospects::radius_for(gates.len(), most);
-    let reach = filtering::filter_for(
+    let radius = prospects::radius_for(gates.len(), counts.most);
+    let reach = filter::filter_for(
         gates,
         wanted,
         task.outputs,
@@ -116,29 +114,19 @@ fn stage(
         prospects::size_for(gates.len(), radius),
         bits,
     );
-    let found = go_on(
-        gates,
-        prices,
-        durations,
-        task,
-        least,
-        held,
-        from,
-        most,
-        bits,
-        reach,
-    );
+    let setup = Setup { task, least, reach };
+    let found = go_on(gates, prices, durations, setup, held, counts, bits);
     if !found.found {
         return Outcome {
             done: false,
             best: found,
         };
     }
-    let best = bids::outbid(gates, prices, durations, task, least, found, reach, bits);
+    let best = cheaper::cheapest(gates, prices, durations, setup, found, bits);
     Outcome { done: true, best }
 }
 
-// Two filters, one after the other: the wider one is filled only where lists of more gates have to be looked at.
+// Two stages, of a narrower and a wider filter: the wider one is filled only where the search has to go on to more gates.
 fn stages(
     gates: &[u8],
     prices: &[u8],
@@ -152,52 +140,38 @@ fn stages(
     requires { ⌜ Slices (now gates) (now prices) (now durations) ⌝ }
     requires { ⌜ Ready task least × ((from ≤ task .«gate_limit») × (task .«gate_limit» ≤ 12)) ⌝ }
     requires { ⌜ (1 ≤ from) × ((from ≤ 10) × (held .len ≤ 12)) ⌝ }
-    ensures { λ r. ⌜ ((P : Problem) → Posed P task (now (gates .entry)) (now (prices .entry)) (now (durations .entry)) → Bounded P least → Limited P task → Deepened P (P .mostCost) (from - 1) held → Settled P (task .«gate_limit») r) ⌝ }
+    ensures { λ r. ⌜ ((P : Problem) → Posed P task (now (gates .entry)) (now (prices .entry)) (now (durations .entry)) → Bounded P least
+        → Limited P task → Deepened P (P .mostCost) (from - 1) held → Settled P (task .«gate_limit») r) ⌝ }
     ensures { λ r. ⌜ r .best .len ≤ 12 ⌝ }
 {
     let limit = task.gate_limit;
     let turn = prospects::turn_for(gates.len(), from);
     if limit <= turn {
-        return stage(
-            gates,
-            prices,
-            durations,
-            task,
-            least,
-            held,
-            from,
-            limit,
-            bits,
-        );
+        let all = Counts { from, most: limit };
+        return stage(gates, prices, durations, task, least, held, all, bits);
     }
-    let first = stage(
-        gates,
-        prices,
-        durations,
-        task,
-        least,
-        held,
-        from,
-        turn,
-        bits,
-    );
+    let few = Counts { from, most: turn };
+    let first = stage(gates, prices, durations, task, least, held, few, bits);
     if first.done {
         return first;
     }
+    let more = Counts {
+        from: turn + 1,
+        most: limit,
+    };
     stage(
         gates,
         prices,
         durations,
         task,
         least,
-        holding::nothing(),
-        turn + 1,
-        limit,
+        best::nothing(),
+        more,
         bits,
     )
 }
 
-// The same, with room for the bits.
+// The search with filters, from `from` gates on: two stages, with room for the bits of a filter.
 fn filtered(
     gates: &[u8],
     prices: &[u8],
@@ -210,14 +184,15 @@ fn filtered(
     requires { ⌜ Slices (now gates) (now prices) (now durations) ⌝ }
     requires { ⌜ Ready task least × ((from ≤ task .«gate_limit») × (task .«gate_limit» ≤ 12)) ⌝ }
     requires { ⌜ (1 ≤ from) × ((from ≤ 10) × (held .len ≤ 12)) ⌝ }
-    ensures { λ r. ⌜ ((P : Problem) → Posed P task (now (gates .entry)) (now (prices .entry)) (now (durations .entry)) → Bounded P least → Limited P task → Deepened P (P .mostCost) (from - 1) held → Settled P (task .«gate_limit») r) ⌝ }
+    ensures { λ r. ⌜ ((P : Problem) → Posed P task (now (gates .entry)) (now (prices .entry)) (now (durations .entry)) → Bounded P least
+        → Limited P task → Deepened P (P .mostCost) (from - 1) held → Settled P (task .«gate_limit») r) ⌝ }
     ensures { λ r. ⌜ r .best .len ≤ 12 ⌝ }
 {
     let mut bits = [0u64; 786432];
     stages(gates, prices, durations, task, least, held, from, &mut bits)
 }
 
-// The answer that a search came to.
+// The answer: none, where the search went through all counts of gates and is still not done.
 fn ended(o: Outcome) -> Best
     requires { ⌜ o .best .len ≤ 12 ⌝ }
     ensures { λ r. ⌜ ((P : Problem) → Settled P (P .mostGates) o → view r ≡ firstGood P) ⌝ }
@@ -227,43 +202,35 @@ fn ended(o: Outcome) -> Best
     if o.done {
         return best;
     }
-    holding::nothing()
+    best::nothing()
 }
 
-// The first good choice of every problem that the slices and the task pose. Feasibility first: with no limit on cost but the task's, the
-// fewest gates; what that finds caps the costs to try. Short lists are looked at with no filter.
+// The first good choice of every problem that the slices and the task pose. First comes feasibility: the fewest gates, with no limit on
+// cost but the task's. What is found is the incumbent, and only lower costs remain to be tried. Short lists are searched with no filter.
 pub fn solve(gates: &[u8], prices: &[u8], durations: &[u8], task: Task) -> Best
     requires { ⌜ Slices (now gates) (now prices) (now durations) ⌝ }
     requires { ⌜ Fair task × (task .«gate_limit» ≤ 12) ⌝ }
-    ensures { λ r. ⌜ ((P : Problem) → Posed P task (now (gates .entry)) (now (prices .entry)) (now (durations .entry)) → Limited P task → view r ≡ firstGood P) ⌝ }
+    ensures { λ r. ⌜ ((P : Problem) → Posed P task (now (gates .entry)) (now (prices .entry)) (now (durations .entry)) → Limited P task
+        → view r ≡ firstGood P) ⌝ }
     ensures { λ r. ⌜ r .len ≤ 12 ⌝ }
 {
     let least = prospects::least_of(gates, prices, task);
     let limit = task.gate_limit;
     let none = [0u64; 0];
     let reach = prospects::no_filter();
+    let setup = Setup { task, least, reach };
     let most = prospects::early(limit);
+    let counts = Counts { from: 0, most };
     let no_sums = [0u8; 0];
-    let held = deepening::fewest(
-        gates,
-        prices,
-        durations,
-        task,
-        least,
-        0,
-        most,
-        &none,
-        reach,
-        &no_sums,
-    );
+    let held = deepening::fewest(gates, prices, durations, setup, counts, &none, &no_sums);
     if limit <= most {
-        return ended(settle(gates, prices, durations, task, least, held, &none, reach));
+        return ended(settle(gates, prices, durations, setup, held, &none));
     }
     if !held.found {
         return ended(filtered(gates, prices, durations, task, least, held, most + 1));
     }
     if prospects::near(task, least, held, most) {
-        return ended(settle(gates, prices, durations, task, least, held, &none, reach));
+        return ended(settle(gates, prices, durations, setup, held, &none));
     }
     ended(filtered(gates, prices, durations, task, least, held, most + 1))
 }

@@ -1,15 +1,15 @@
--- What a table asks for, row by row, and when a gate list and a layout realize it (documents 01 and 02: meet it): for a list of any length.
+-- What a table asks for, row by row, and when a gate list of any length and a layout realize it (documents 01 and 02: meet it).
 use mathlib.Core.Bool.{Bool, true}
 use mathlib.Core.List.{List, [], _∷_}
 use Prim.Native.Nat.{ℕ, suc, _/_, _%_, _^_}
 use lib.Bits.{bitAnd}
 use lib.Dec.{ltb, eqb}
-use Rattle.logic.specs.Rules.{both, implies, allBelow}
+use Rattle.logic.specs.Rules.{both, implies, allBelow, pick}
 use Rattle.logic.specs.Bit.{bitOf}
-use Rattle.running.specs.Run.{forwards}
-use Rattle.layouts.specs.Layouts.{wireOf}
+use Rattle.circuit.specs.run.Run.{forwards}
+use Rattle.table.specs.layouts.Layouts.{wireOf}
 
--- "one byte a row: wanted-bits mask in the high four bits, value in the low four"; the care mask is the wanted-bits mask
+-- "one byte a row: wanted-bits mask in the high four bits, value in the low four"; the wanted-bits mask is called care mask here
 abbrev pub careOf : ℕ → ℕ
 careOf row = row / 16
 
@@ -27,7 +27,7 @@ bitAgrees p row v j = implies (eqb (bitOf j (careOf row)) 1) (eqb (bitOf (wireOf
 unfoldable pub rowAgrees : ℕ → ℕ → ℕ → Bool
 rowAgrees p row v = allBelow 4 (bitAgrees p row v)
 
--- the rows from number x on agree with the end values that `ends` gives each row number
+-- the rows, the first of which has the number x, agree with the end values of the wires; `ends` gives the end value of each row number
 unfoldable pub agreesFrom : ℕ → (ℕ → ℕ) → ℕ → List ℕ → Bool
 agreesFrom p ends x [] = true
 agreesFrom p ends x (row ∷ rows) = both (rowAgrees p row (ends x)) (agreesFrom p ends (suc x) rows)
@@ -42,6 +42,11 @@ atZero n ends x = eqb (bitOf n (ends x)) 0
 unfoldable pub clean : ℕ → (ℕ → ℕ) → Bool
 clean n ends = allBelow (2 ^ n) (atZero n ends)
 
--- "meets" a table of n outputs: row x starts with the value x
+-- "meets" a table of n outputs: run on each row number, the list gives the bits that the table cares about, and is clean
 unfoldable pub realizes : ℕ → List ℕ → ℕ → List ℕ → Bool
 realizes n rows p gs = both (agrees p (forwards gs) rows) (clean n (forwards gs))
+
+-- the number of the row that has the value v, in the list of the values of all rows
+unfoldable pub rowOf : ℕ → List ℕ → ℕ
+rowOf v [] = 0
+rowOf v (y ∷ ys) = pick (eqb y v) 0 (suc (rowOf v ys))

@@ -1,9 +1,18 @@
-// What a table asks for: rows of a care mask and a value. Whether a gate list does it is worked out in `agreement`.
+// Truth tables with don't-cares, and what it means to realize one. A row is one byte: the care mask (document 01: wanted-bits mask) in its
+// high four bits, the value in its low four. This root checks the rows of a table.
+// - `agreement`: whether a gate list gives every bit that the table cares about.
+// - `cleaning`: whether a gate list returns the ancilla to 0.
+// - `layouts`: final layouts, that is, which wire each output ends on.
+pub mod agreement;
+pub mod cleaning;
+pub mod layouts;
+
 ghost use mathlib.Core.Path.{_≡_};
 ghost use Prim.Native.Nat.{_<_};
 ghost use Rattle.logic.specs.Lists.{allOf};
 ghost use Rattle.table.specs.Rows.{rowOk};
 
+// Whether a row is in order for `n` outputs: no value bit outside the care mask, and no bit of either from `n` on.
 fn row_ok(n: usize, row: u8) -> bool
     requires { ⌜ n < 64 ⌝ }
     ensures { λ r. ⌜ r ≡ rowOk n row ⌝ }
@@ -16,7 +25,7 @@ fn row_ok(n: usize, row: u8) -> bool
     )
 }
 
-// Whether every row keeps the rules of a table of `n` outputs.
+// Whether every row of a table is in order for `n` outputs.
 pub fn rows_ok(n: usize, rows: &[u8]) -> bool
     requires { ⌜ n < 64 ⌝ }
     ensures { λ r. ⌜ r ≡ allOf (rowOk n) (now (rows .entry)) ⌝ }

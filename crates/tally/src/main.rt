@@ -1,12 +1,16 @@
-// Fills a sheet and tells how many permutations have each least gate count, beside the figures of Shende, Prasad, Markov and Hayes (IEEE
-// TCAD 2003); before that two buffers of other lengths, after it some cells. The bytes that no call has written still hold 200.
-use libc::STDOUT_FILENO;
+// Fills a sheet with the least gate count of every permutation of three wires, and prints how many permutations have each, beside the
+// figures that Shende, Prasad, Markov and Hayes published (IEEE TCAD 2003), and then some cells. Before that it offers two buffers of a
+// wrong length. All bytes are 200 at first, so those that no call has written can be counted.
+use console::output::say;
+use console::output::say_count;
+use console::output::say_number;
 use sizes::Filled;
 ghost use Prim.Native.Nat.{_≤_, _<_};
 ghost use lib.ListN.{length};
 
 const PUBLISHED: [u64; 9] = [1, 12, 102, 625, 2780, 8921, 17049, 10253, 577];
 
+// The cells that are printed.
 const PLACES: [usize; 16] = [
     0,
     1,
@@ -31,7 +35,7 @@ fn main() {
     run(&mut room);
 }
 
-// An array of this size is lent as what it is, and only here as a slice: the checker would go through it element by element.
+// Lends the array as a slice. `main` lends it as an array: the checker would go through one of this size element by element.
 fn run(room: &mut [u8; 40321]) {
     fill_and_tell(room);
 }
@@ -45,7 +49,7 @@ fn fill_and_tell(room: &mut [u8]) {
     tell_front(room, 40320);
 }
 
-// Fills so many bytes.
+// Offers so many bytes to be filled.
 fn fill_front(room: &mut [u8], n: usize) {
     if n <= room.len() {
         fill(&mut room[..n]);
@@ -64,34 +68,23 @@ fn tell_sheet(cells: &[u8]) {
     tell_cells(cells);
 }
 
-fn say(text: &[u8]) {
-    io::write_all(STDOUT_FILENO, text);
-}
-
-fn say_number(n: usize) {
-    io::print_decimal(STDOUT_FILENO, n as u64);
-}
-
 fn fill(cells: &mut [u8]) {
-    say_number(cells.len());
+    say_number(cells.len() as u64);
     match sizes::fill(cells) {
-        Filled::Refused(code) => {
-            say(b" refused ");
-            say_number(logic::wide(code));
-        }
+        Filled::Refused(code) => say_count(b" refused ", code as u64),
         Filled::Whole => say(b" filled"),
     }
     say(b"\n");
 }
 
-// 1 for a byte from `least` to `most`.
+// 1 where a byte lies from `least` to `most`, and else 0.
 fn one(least: u8, x: u8, most: u8) -> usize
     ensures { λ n. ⌜ n ≤ 1 ⌝ }
 {
     if least <= x && x <= most { 1 } else { 0 }
 }
 
-// How many bytes hold from `least` to `most`.
+// How many bytes lie from `least` to `most`.
 fn count(cells: &[u8], least: u8, most: u8) -> usize
     ensures { λ n. ⌜ n ≤ length (now (cells .entry)) ⌝ }
 {
@@ -105,8 +98,7 @@ fn count(cells: &[u8], least: u8, most: u8) -> usize
 }
 
 fn tell_untouched(room: &[u8]) {
-    say(b"untouched ");
-    say_number(count(room, 200, 200));
+    say_count(b"untouched ", count(room, 200, 200) as u64);
     say(b"\n");
 }
 
@@ -119,20 +111,16 @@ fn tell_counts(cells: &[u8]) {
 }
 
 fn tell_more(cells: &[u8]) {
-    say(b"more: ");
-    say_number(count(cells, 9, 255));
+    say_count(b"more: ", count(cells, 9, 255) as u64);
     say(b"\n");
 }
 
 fn tell_count(cells: &[u8], k: usize, published: u64)
     requires { ⌜ k < 9 ⌝ }
 {
-    say(b"gates ");
-    say_number(k);
-    say(b": ");
-    say_number(count(cells, k as u8, k as u8));
-    say(b", published ");
-    io::print_decimal(STDOUT_FILENO, published);
+    say_count(b"gates ", k as u64);
+    say_count(b": ", count(cells, k as u8, k as u8) as u64);
+    say_count(b", published ", published);
     say(b"\n");
 }
 
@@ -145,9 +133,7 @@ fn tell_cells(cells: &[u8]) {
 }
 
 fn tell_cell(cells: &[u8], place: usize) {
-    say(b"cell ");
-    say_number(place);
-    say(b": ");
-    say_number(logic::wide(logic::at(cells, place)));
+    say_count(b"cell ", place as u64);
+    say_count(b": ", logic::at(cells, place) as u64);
     say(b"\n");
 }

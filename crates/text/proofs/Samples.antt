@@ -2,7 +2,7 @@
 use mathlib.Core.Path.{_≡_, refl}
 use mathlib.Core.List.{[], _∷_, map}
 use Rattle.logic.specs.Words.{bytes}
-use Rattle.pieces.specs.Text.{place, decimal, spaced, hexDigit, hexOf, refusedLine, foundLine}
+use Rattle.text.specs.pieces.Text.{place, decimal, spaced, hexDigit, hexOf, refusedLine, foundLine}
 
 -- the line has no ready times
 pub found-sample : foundLine (record { gates = 3; cost = 3; depth = 3; ready0 = 3; ready1 = 3; ready2 = 0; ready3 = 0; ready4 = 0 })

@@ -1,12 +1,19 @@
-// The line that the program prints, as bytes written into a lent buffer.
-use measures::Measures;
+// Text in ASCII, written piece by piece into a lent buffer. The root has the two lines that answer a search: `found` with the
+// measures and the record, and `refused` with the number.
+//
+// - `pieces`: bytes, words and decimal numbers, each laid into a buffer from an index on;
+// - `hex`: bytes in hexadecimal, laid into a buffer.
+pub mod hex;
+pub mod pieces;
+
+use circuit::measures::Measures;
 ghost use mathlib.Core.Path.{_≡_};
 ghost use Prim.Native.Nat.{_+_, _≤_};
 ghost use lib.ListN.{length};
-ghost use Rattle.pieces.specs.Text.{refusedLine, foundLine, inFront};
-ghost use Rattle.pieces.specs.Writing.{Wrote};
+ghost use Rattle.text.specs.pieces.Text.{refusedLine, foundLine, inFront};
+ghost use Rattle.text.specs.pieces.Writing.{Wrote};
 
-// Writes `refused` and the number.
+// Writes `refused` and the number from index `i` on, and answers the index after the line.
 pub fn put_refused(out: &mut [u8], i: usize, code: u8) -> usize
     requires { ⌜ i + 14 ≤ length (now out) ⌝ }
     ensures { λ r. ⌜ Wrote (now (out .entry)) i (refusedLine code) (now (out .exit)) r ⌝ }

@@ -1,13 +1,22 @@
-// Runs the calls that stand in text files, one to a line, and writes a line for each: its answer, or a heading as it is. A line that is
-// no call gets `bad line` and its number, so that a slip in the data is seen. At the end `main`'s own code reads three files in
-// place of its standard input, and what `gazbolk search` prints for them follows.
+// A test program: makes the calls that stand in data files, one to a line, and prints a line for each with its answer. At the end it runs
+// `main`'s own code on three files in place of standard input, and beside it that of `gazbolk search`.
+//
+// - `call_lines`: which lines are calls, and how the answers of calls are said.
+mod call_lines;
+
 use approximate::Nearest;
 use batch::Batched;
-use libc::STDOUT_FILENO;
+use commands::program;
+use commands::search_files;
+use console::data_lines;
+use console::output;
+use library::judge;
 use outcomes::Searched;
 use peephole::Rewritten;
+use printed::rewriting;
 use sensitivity::Change;
-use windows::Prices;
+use sensitivity::difference;
+use verify::runs;
 ghost use Prim.Native.Nat.{_≤_};
 ghost use lib.ListN.{length};
 
@@ -17,7 +26,7 @@ fn main() {
     run_program();
 }
 
-// The calls of the base, with longer jobs and marked circuits.
+// The calls of document 01, and the same calls on the longer jobs and the marked circuits of document 02.
 fn run_base() {
     run_file(b"jobs");
     run_file(b"circuits");
@@ -32,7 +41,7 @@ fn run_base() {
     run_file(b"lines");
 }
 
-// The calls that came later.
+// The calls that document 02 adds.
 fn run_later() {
     run_file(b"library");
     run_file(b"batches");
@@ -43,7 +52,7 @@ fn run_later() {
 
 // What `main` and `gazbolk search` print for three inputs.
 fn run_program() {
-    data_lines::say(
+    output::say(
         b"# main, gazbolk search: no input at all; four data wires and an ancilla; a sound job with one byte more\n",
     );
     print_both(b"empty");
@@ -60,41 +69,30 @@ fn print_both(name: &[u8]) {
 fn answer_file(name: &[u8]) {
     let file = os::open_read(name);
     if file < 0 {
-        data_lines::complain(b"missing ", name);
+        output::say_unreadable(name);
         return;
     }
     program::answer(file);
     libc::close(file);
 }
 
-// What `gazbolk search` prints for this file, of which all is read.
+// What `gazbolk search` prints for this file.
 fn explain_file(name: &[u8]) {
-    let file = os::open_read(name);
     let mut job = io::buffer();
-    let n = io::read_full(file, &mut job);
-    libc::close(file);
+    let n = data_lines::read_file(name, &mut job);
     explain(&job[..n]);
 }
 
 fn explain(job: &[u8]) {
     let mut out = [0u8; 128];
-    let size = files::search_text(job, false, job, &mut out);
-    data_lines::say(&out[..size]);
+    let size = search_files::search_text(job, false, job, &mut out);
+    output::say(&out[..size]);
 }
 
 // Runs the lines of a file of fewer than 65,536 bytes.
 fn run_file(name: &[u8]) {
-    let file = os::open_read(name);
-    if file < 0 {
-        data_lines::complain(b"missing ", name);
-        return;
-    }
     let mut text = io::large_buffer();
-    let n = io::read_full(file, &mut text);
-    libc::close(file);
-    if n == 65536 {
-        data_lines::complain(b"too long ", name);
-    }
+    let n = data_lines::read_file(name, &mut text);
     run_lines(&text[..n]);
 }
 
@@ -110,24 +108,15 @@ fn run_lines(text: &[u8]) {
 }
 
 fn run_line(line: &[u8], number: usize) {
-    if logic::at(line, 0) == b'#' {
-        data_lines::say(line);
-    } else {
-        run_sound(line, number);
-    }
-    data_lines::say(b"\n");
-}
-
-fn run_sound(line: &[u8], number: usize) {
     if call_lines::is_call(line) {
         run_call(line);
     } else {
-        data_lines::say(b"bad line ");
-        io::print_decimal(STDOUT_FILENO, number as u64);
+        data_lines::say_other(line, number);
     }
+    output::say(b"\n");
 }
 
-// Runs a call: its name, and one to three words of bytes.
+// Makes the call of a line: a name, and one to three words of bytes.
 fn run_call(line: &[u8]) {
     let a = data_lines::find(line, 0, b' ');
     let from = data_lines::past(line, a);
@@ -141,7 +130,7 @@ fn run_call(line: &[u8]) {
     with_third(line, data_lines::past(line, c), &first[..n], &second[..m]);
 }
 
-// The third word, which begins at `at`.
+// Reads the third word, which begins at `at`, and makes the call.
 fn with_third(line: &[u8], at: usize, first: &[u8], second: &[u8])
     requires { ⌜ at ≤ length (now line) ⌝ }
 {
@@ -150,7 +139,7 @@ fn with_third(line: &[u8], at: usize, first: &[u8], second: &[u8])
     dispatch(logic::at(line, 0), first, second, &third[..k]);
 }
 
-// Each call by its first letter, which no other call has.
+// Makes the call whose name begins with this letter: no two do.
 fn dispatch(letter: u8, first: &[u8], second: &[u8], third: &[u8]) {
     match letter {
         b'j' => call_lines::say_checked(record::check_job(first)),
@@ -165,22 +154,22 @@ fn dispatch(letter: u8, first: &[u8], second: &[u8], third: &[u8]) {
     }
 }
 
-// The calls that search, or need a library or two jobs.
+// The calls that search, and those with a library or two jobs.
 fn dispatch_search(letter: u8, first: &[u8], second: &[u8], third: &[u8]) {
     match letter {
         b's' => say_search(first, second, false, logic::at(second, 0)),
         b'l' => say_line(first),
         b'a' => say_search(first, second, true, logic::at(third, 0)),
-        b'w' => call_lines::say_measured(libraries::verify_with(first, second, third)),
+        b'w' => call_lines::say_measured(judge::verify_with(first, second, third)),
         b't' => say_batch(first, second, logic::at(third, 0)),
         b'd' => say_change(sensitivity::price_change(first, second)),
-        b'g' => call_lines::say_difference(signed_costs::cost_difference(
-            call_lines::cost_in(first),
-            call_lines::cost_in(second),
+        b'g' => call_lines::say_difference(difference::cost_difference(
+            call_lines::number_in(first),
+            call_lines::number_in(second),
         )),
         b'n' => say_closest(first, logic::at(second, 0)),
         b'r' => say_rewrite(first, second, third),
-        _ => data_lines::say(b"unknown"),
+        _ => output::say(b"unknown"),
     }
 }
 
@@ -191,26 +180,20 @@ fn say_change(answer: Change) {
     }
 }
 
-// Searches with an answer buffer of `room` bytes, each different, and writes the answer and the whole buffer.
+// Searches with a numbered buffer of `room` bytes, and says the answer and the whole buffer.
 fn say_search(job: &[u8], library: &[u8], among: bool, room: u8) {
-    let mut buffer = io::buffer();
-    call_lines::number(&mut buffer);
-    search_into(job, library, among, &mut buffer, room as usize);
-}
-
-fn search_into(job: &[u8], library: &[u8], among: bool, buffer: &mut [u8], n: usize) {
-    if n <= buffer.len() {
-        search_whole(job, library, among, &mut buffer[..n]);
-    }
+    let mut buffer = data_lines::numbered();
+    let n = room as usize;
+    search_whole(job, library, among, &mut buffer[..n]);
 }
 
 fn search_whole(job: &[u8], library: &[u8], among: bool, answer: &mut [u8]) {
     say_searched(search_one(job, library, among, answer));
-    data_lines::say(b" ");
+    output::say(b" ");
     data_lines::say_bytes(answer);
 }
 
-// Among the gates of a library, or among the job's own.
+// Searches among the gates of a library, or among those that the job allows.
 fn search_one(job: &[u8], library: &[u8], among: bool, answer: &mut [u8]) -> Searched {
     if among {
         library::search_with(job, library, answer)
@@ -226,22 +209,16 @@ fn say_searched(answer: Searched) {
     }
 }
 
-// Searches for the closest circuit with an answer buffer of `room` bytes, and writes the answer and the whole buffer.
+// Searches for the closest circuit with a numbered buffer of `room` bytes, and says the answer and the whole buffer.
 fn say_closest(job: &[u8], room: u8) {
-    let mut buffer = io::buffer();
-    call_lines::number(&mut buffer);
-    closest_into(job, &mut buffer, room as usize);
-}
-
-fn closest_into(job: &[u8], buffer: &mut [u8], n: usize) {
-    if n <= buffer.len() {
-        closest_whole(job, &mut buffer[..n]);
-    }
+    let mut buffer = data_lines::numbered();
+    let n = room as usize;
+    closest_whole(job, &mut buffer[..n]);
 }
 
 fn closest_whole(job: &[u8], answer: &mut [u8]) {
     say_nearest(approximate::closest(job, answer));
-    data_lines::say(b" ");
+    output::say(b" ");
     data_lines::say_bytes(answer);
 }
 
@@ -252,37 +229,31 @@ fn say_nearest(answer: Nearest) {
     }
 }
 
-// Searches for the jobs of a batch with numbered buffers, and writes the answer and both buffers whole. The length of the answers has two bytes.
+// Searches for the jobs of a batch with numbered buffers, and says the answer and both buffers whole. `answers` and `statuses` are the
+// buffers' lengths.
 fn say_batch(jobs: &[u8], answers: &[u8], statuses: u8) {
-    let n = 256 * logic::wide(logic::at(answers, 0)) + logic::wide(logic::at(answers, 1));
-    let mut cells = io::buffer();
-    call_lines::number(&mut cells);
-    batch_into(jobs, &mut cells, n, statuses as usize);
+    let n = call_lines::number_in(answers) as usize;
+    let mut cells = data_lines::numbered();
+    batch_into(jobs, &mut cells, n, statuses);
 }
 
-fn batch_into(jobs: &[u8], cells: &mut [u8], n: usize, m: usize) {
+fn batch_into(jobs: &[u8], cells: &mut [u8], n: usize, statuses: u8) {
     if n <= cells.len() {
-        batch_with(jobs, &mut cells[..n], m);
+        batch_with(jobs, &mut cells[..n], statuses);
     }
 }
 
-fn batch_with(jobs: &[u8], cells: &mut [u8], m: usize) {
-    let mut codes = io::buffer();
-    call_lines::number(&mut codes);
-    batch_within(jobs, cells, &mut codes, m);
-}
-
-fn batch_within(jobs: &[u8], cells: &mut [u8], codes: &mut [u8], m: usize) {
-    if m <= codes.len() {
-        batch_whole(jobs, cells, &mut codes[..m]);
-    }
+fn batch_with(jobs: &[u8], cells: &mut [u8], statuses: u8) {
+    let mut buffer = data_lines::numbered();
+    let n = statuses as usize;
+    batch_whole(jobs, cells, &mut buffer[..n]);
 }
 
 fn batch_whole(jobs: &[u8], cells: &mut [u8], codes: &mut [u8]) {
     say_batched(batch::search_all(jobs, cells, codes));
-    data_lines::say(b" ");
+    output::say(b" ");
     data_lines::say_bytes(cells);
-    data_lines::say(b" ");
+    output::say(b" ");
     data_lines::say_bytes(codes);
 }
 
@@ -293,9 +264,10 @@ fn say_batched(answer: Batched) {
     }
 }
 
-// Rewrites the gates, over and over until there are as many as two bytes say, and writes the answer and the whole list.
+// Rewrites a list of the gates, over and over until it is as long as `size` says, and says the answer and the whole list. The setting is
+// the wires, the window and three prices.
 fn say_rewrite(setting: &[u8], gates: &[u8], size: &[u8]) {
-    let n = 256 * logic::wide(logic::at(size, 0)) + logic::wide(logic::at(size, 1));
+    let n = call_lines::number_in(size) as usize;
     let mut list = io::large_buffer();
     rewrite_into(setting, gates, &mut list, n);
 }
@@ -308,13 +280,9 @@ fn rewrite_into(setting: &[u8], gates: &[u8], list: &mut [u8], n: usize) {
 
 fn rewrite_whole(setting: &[u8], gates: &[u8], list: &mut [u8]) {
     call_lines::repeat(gates, list);
-    let prices = Prices {
-        not: logic::at(setting, 2),
-        cnot: logic::at(setting, 3),
-        toffoli: logic::at(setting, 4),
-    };
+    let prices = rewriting::prices_in(setting);
     say_rewritten(peephole::rewrite(logic::at(setting, 0), logic::at(setting, 1), prices, list));
-    data_lines::say(b" ");
+    output::say(b" ");
     data_lines::say_bytes(list);
 }
 
@@ -325,7 +293,7 @@ fn say_rewritten(answer: Rewritten) {
     }
 }
 
-// The line that `main` prints, without its line feed.
+// Says the line that `main` prints for a job, without its line feed.
 fn say_line(job: &[u8]) {
     let mut out = [0u8; 64];
     let size = program::line(job, &mut out);

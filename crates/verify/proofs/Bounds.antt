@@ -1,5 +1,5 @@
--- Depth between its two bounds, for a job and a sound circuit of the same wires: never below the gates divided by the wires, rounded up,
--- and never above the sum of durations. So are the measures that measuring answers.
+-- Document 01's two bounds on depth, for a job and a sound circuit on the same wires: at least the number of gates divided by the number
+-- of wires, rounded up, and at most the sum of the durations. The depth that `measure` answers keeps both.
 use mathlib.Core.Path.{_≡_, ap₂}
 use mathlib.Core.Bool.{Bool, true, false, false≢true}
 use mathlib.Core.List.{List}
@@ -19,14 +19,15 @@ use Rattle.circuit.specs.Measure.{depth}
 use Rattle.circuit.proofs.Prefix.{depth-most}
 use Rattle.circuit.proofs.Gatebound.{roundedUp, gates-by-depth, depth-least}
 use Rattle.record.specs.JobRules.{jobCode}
-use Rattle.fields.specs.Jobs.{longer, mostControls, dataWires, ancillas, wires, durationOf}
-use Rattle.circuit_rules.specs.CircuitRules.{circuitCode}
-use Rattle.circuit_fields.specs.Circuits.{marked, controlsOf, gates}
+use Rattle.record.specs.job_fields.Jobs.{longer, mostControls, dataWires, ancillas, wires, durationOf}
+use Rattle.record.specs.circuit_rules.CircuitRules.{circuitCode}
+use Rattle.record.specs.circuit_fields.Circuits.{marked, controlsOf, gates}
 use Rattle.record.proofs.Kept.{sound-job, wires-within}
-use Rattle.circuit_rules.proofs.Sound.{sound-circuit}
-use Rattle.measures.specs.declared.Measures.{Measures}
-use Rattle.measures.specs.Measures.{measuresOf}
-use Rattle.verify.specs.Calls.{measuresFor, sameWires, markFits, measureCode, measureOf}
+use Rattle.record.proofs.circuit_rules.Sound.{sound-circuit}
+use Rattle.circuit.specs.declared.measures.Measures.{Measures}
+use Rattle.circuit.specs.measures.Measures.{measuresOf}
+use Rattle.verify.specs.Calls.{measuresFor, measureOf}
+use Rattle.record.specs.pair_codes.Codes.{sameWires, markFits, measureCode}
 use Rattle.verify.proofs.Codes.{measure-parts}
 
 module _ (job c : List ℕ) where
@@ -36,7 +37,7 @@ module _ (job c : List ℕ) where
       let p = both-parts (eqb (dataWires job) (dataWires c)) (eqb (ancillas job) (ancillas c)) h in
       ap₂ _+_ (eqb-true (dataWires job) (dataWires c) (p .0)) (eqb-true (ancillas job) (ancillas c) (p .1))
 
-  -- a marked circuit may hold three controls, and so may the job's
+  -- a marked circuit may hold gates of three controls, and then the job allows them
   no-more : markFits job c ≡ true → controlsOf c ≤ mostControls job
   unfolding markFits
   no-more = by-mark (marked c) (longer job)

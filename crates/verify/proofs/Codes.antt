@@ -1,4 +1,4 @@
--- What a code of 0 says of its parts.
+-- What a job and a circuit that measuring does not refuse are known to be.
 use mathlib.Core.Path.{_≡_}
 use mathlib.Core.Bool.{true}
 use mathlib.Core.List.{List}
@@ -7,9 +7,8 @@ use lib.Dec.{lit<}
 use Rattle.logic.specs.Rules.{rule}
 use Rattle.logic.proofs.Chain.{and-then-zero, rule-kept}
 use Rattle.record.specs.JobRules.{jobCode}
-use Rattle.fields.specs.Jobs.{wires}
-use Rattle.circuit_rules.specs.CircuitRules.{circuitCode}
-use Rattle.verify.specs.Calls.{sameWires, markFits, circuitCodeFor, measureCode}
+use Rattle.record.specs.circuit_rules.CircuitRules.{circuitCode}
+use Rattle.record.specs.pair_codes.Codes.{sameWires, markFits, circuitCodeFor, measureCode}
 
 pub circuit-parts : (job c : List ℕ) → circuitCodeFor job c ≡ 0 → (circuitCode c ≡ 0) × ((sameWires job c ≡ true) × (markFits job c ≡ true))
 unfolding circuitCodeFor

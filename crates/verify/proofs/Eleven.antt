@@ -6,20 +6,20 @@ use native.Mathlib.Omega.{arith}
 use Rattle.logic.specs.Answers.{refused}
 use Rattle.logic.proofs.Answers.{refused-is}
 use Rattle.logic.proofs.Chain.{rule-never, and-then-never}
-use Rattle.running.specs.Run.{forwards}
-use Rattle.layouts.specs.Layouts.{allowed}
+use Rattle.circuit.specs.run.Run.{forwards}
+use Rattle.table.specs.layouts.Layouts.{allowed}
 use Rattle.table.specs.Rows.{agrees, clean}
 use Rattle.record.specs.JobRules.{jobCode}
-use Rattle.fields.specs.Jobs.{dataWires, freeLayout, rows}
-use Rattle.circuit_rules.specs.CircuitRules.{circuitCode}
-use Rattle.circuit_fields.specs.Circuits.{layoutOf, gates}
-use Rattle.circuit_rules.proofs.Eleven.{circuit-never}
+use Rattle.record.specs.job_fields.Jobs.{dataWires, freeLayout, rows}
+use Rattle.record.specs.circuit_rules.CircuitRules.{circuitCode}
+use Rattle.record.specs.circuit_fields.Circuits.{layoutOf, gates}
+use Rattle.record.proofs.circuit_rules.Eleven.{circuit-never}
 use Rattle.record.proofs.Never.{job-never}
-use Rattle.measures.specs.declared.Measures.{Measures}
-use Rattle.verify.specs.Calls.{measuresFor, sameWires, markFits, circuitCodeFor, measureCode, measureOf}
-use Rattle.judging.specs.Judging.{verifyRest}
+use Rattle.circuit.specs.declared.measures.Measures.{Measures}
+use Rattle.verify.specs.Calls.{measuresFor, measureOf, verifyRest}
+use Rattle.record.specs.pair_codes.Codes.{sameWires, markFits, circuitCodeFor, measureCode}
 use Rattle.verify.specs.Calls.{verifyCode, verifyOf}
-use Rattle.limits.proofs.Within.{limits-never}
+use Rattle.verify.proofs.limits.Within.{limits-never}
 
 module _ (job c : List ℕ) where
   pub circuit-for-never : circuitCodeFor job c ≡ 11 → ⊥

@@ -1,5 +1,5 @@
--- Demand 2's sentence on the judge: a circuit passes for a job exactly when it has the job's wires, no mark that the job has not, and
--- an allowed layout, and realizes the table within all three limits.
+-- Demand 2's sentence on the judge: a circuit passes for a job exactly if it has the job's wires, a mark only where the job is a longer
+-- one, and an allowed layout, and realizes the table within all three limits.
 use mathlib.Core.Path.{_≡_, sym, ap, _∙_}
 use mathlib.Core.Logic.{_↔_}
 use mathlib.Core.List.{List}
@@ -10,24 +10,24 @@ use lib.ListN.{length}
 use Rattle.logic.specs.Answers.{answered}
 use Rattle.logic.proofs.Answers.{answered-with, answered-is}
 use Rattle.logic.proofs.Chain.{both-left, both-right, rule-kept, and-then-zero}
-use Rattle.running.specs.Run.{forwards}
+use Rattle.circuit.specs.run.Run.{forwards}
 use Rattle.circuit.specs.Measure.{cost, depth}
-use Rattle.layouts.specs.Layouts.{allowed}
+use Rattle.table.specs.layouts.Layouts.{allowed}
 use Rattle.table.specs.Rows.{agrees, clean}
 use Rattle.table.proofs.Rows.{realizes-agrees, realizes-clean, agrees-realizes}
 use Rattle.record.specs.JobRules.{jobCode}
-use Rattle.fields.specs.Jobs.{dataWires, ancillas, freeLayout, gateLimit, costLimit, depthLimit, priceOf, durationOf, rows}
-use Rattle.circuit_fields.specs.Circuits.{layoutOf, gates}
-use Rattle.measures.specs.declared.Measures.{Measures}
-use Rattle.measures.specs.Measures.{measuresOf}
-use Rattle.judging.specs.Judging.{verifyRest}
-use Rattle.verify.specs.Calls.{measuresFor, sameWires, circuitCodeFor, measureCode, verifyCode, verifyOf}
-use Rattle.limits.specs.Limits.{limitsCode}
+use Rattle.record.specs.job_fields.Jobs.{dataWires, ancillas, freeLayout, gateLimit, costLimit, depthLimit, priceOf, durationOf, rows}
+use Rattle.record.specs.circuit_fields.Circuits.{layoutOf, gates}
+use Rattle.circuit.specs.declared.measures.Measures.{Measures}
+use Rattle.circuit.specs.measures.Measures.{measuresOf}
+use Rattle.verify.specs.Calls.{measuresFor, verifyCode, verifyOf, verifyRest}
+use Rattle.record.specs.pair_codes.Codes.{sameWires, circuitCodeFor, measureCode}
+use Rattle.verify.specs.limits.Limits.{limitsCode}
 use Rattle.verify.specs.Demand.{PassesAt, Passes}
 use Rattle.verify.proofs.Codes.{circuit-parts}
 
 module _ (price duration : ℕ → ℕ) (job c : List ℕ) where
-  -- past the job's checks and those of a circuit for it, the rest is kept exactly by what passes
+  -- for a job and a circuit that measuring does not refuse, the remaining rules hold exactly if the circuit passes
   pub rest-passes : jobCode job ≡ 0 → circuitCodeFor job c ≡ 0 → verifyRest job c (measuresOf price duration (gates c)) ≡ 0
       → PassesAt price duration job c
   unfolding verifyRest limitsCode measuresOf sameWires

@@ -1,4 +1,4 @@
--- The ready times in an answer: they are those of the circuit, their greatest is the depth, and a wire that the circuit lacks has 0.
+-- The ready times in an answer are those of the circuit, the greatest is the depth, and they are 0 for wires that the circuit lacks.
 use mathlib.Core.Path.{_≡_, refl, sym, ap, _∙_}
 use mathlib.Core.List.{List, [], _∷_}
 use Prim.Native.Nat.{ℕ}
@@ -11,13 +11,14 @@ use Rattle.gate.specs.Gates.{gateOf}
 use Rattle.circuit.specs.Measure.{holdByte, idle, readyTimes, greatest}
 use Rattle.circuit.proofs.Times.{length-hold}
 use Rattle.circuit.proofs.Gatebound.{quiet-ready}
-use Rattle.fields.specs.Jobs.{wires, priceOf, durationOf}
-use Rattle.circuit_rules.specs.CircuitRules.{circuitCode}
-use Rattle.circuit_fields.specs.Circuits.{controlsOf, gates}
-use Rattle.circuit_rules.proofs.Sound.{sound-circuit, circuit-wires-within}
-use Rattle.measures.specs.declared.Measures.{Measures}
-use Rattle.measures.specs.Measures.{measuresOf, readyOf}
-use Rattle.verify.specs.Calls.{measuresFor, measureCode, measureOf, verifyCode, verifyOf}
+use Rattle.record.specs.job_fields.Jobs.{wires, priceOf, durationOf}
+use Rattle.record.specs.circuit_rules.CircuitRules.{circuitCode}
+use Rattle.record.specs.circuit_fields.Circuits.{controlsOf, gates}
+use Rattle.record.proofs.circuit_rules.Sound.{sound-circuit, circuit-wires-within}
+use Rattle.circuit.specs.declared.measures.Measures.{Measures}
+use Rattle.circuit.specs.measures.Measures.{measuresOf, readyOf}
+use Rattle.verify.specs.Calls.{measuresFor, measureOf, verifyCode, verifyOf}
+use Rattle.record.specs.pair_codes.Codes.{measureCode}
 use Rattle.verify.specs.Demand.{Timed}
 use Rattle.verify.proofs.Codes.{measure-parts}
 use Rattle.verify.proofs.Pass.{code-passes}

@@ -1,2 +1,4 @@
 pub mod Calls
 pub mod Demand
+pub mod limits
+pub mod runs

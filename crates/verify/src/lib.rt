@@ -1,14 +1,25 @@
-// The public calls that judge a circuit: measuring, and verifying (document 01: judging).
-use measures::Measures;
-pub use runs::Ran;
-pub use runs::run_backwards;
-pub use runs::run_forwards;
+// Circuits run, measured, and verified against a job (document 01: judged). This root has the public calls `measure` and `verify`.
+// - `judging`: the rules that verifying adds to those of measuring.
+// - `limits`: the job's limits on gates, cost and depth.
+// - `runs`: the public calls `run_forwards` and `run_backwards`.
+pub mod judging;
+pub mod limits;
+pub mod runs;
+
+pub use crate::runs::Ran;
+pub use crate::runs::run_backwards;
+pub use crate::runs::run_forwards;
+use circuit::measures;
+use circuit::measures::Measures;
+use record::circuit_fields;
+use record::job_fields;
+use record::pair_codes;
 ghost use mathlib.Core.Path.{_≡_};
-ghost use Rattle.circuit_rules.specs.CircuitRules.{circuitCode};
+ghost use Rattle.record.specs.circuit_rules.CircuitRules.{circuitCode};
 ghost use Rattle.verify.specs.Calls.{measuredAnswer, measuresFor, measureOf};
 ghost use Rattle.verify.specs.Calls.{verifyOf};
 
-// What measuring and verifying answer: the number of the first rule broken, or the circuit's measures.
+// What measuring and verifying answer: the code of the first rule broken, or the circuit's measures.
 pub enum Measured {
     Refused(u8),
     Within(Measures),
@@ -21,8 +32,8 @@ fn measures_for(job: &[u8], c: &[u8]) -> Measures
 {
     measures::measure_list(
         circuit_fields::gate_list(c),
-        fields::prices(job),
-        fields::durations(job),
+        job_fields::prices(job),
+        job_fields::durations(job),
     )
 }
 
@@ -30,18 +41,18 @@ fn measures_for(job: &[u8], c: &[u8]) -> Measures
 pub fn measure(job: &[u8], c: &[u8]) -> Measured
     ensures { λ r. ⌜ measuredAnswer r ≡ measureOf (now (job .entry)) (now (c .entry)) ⌝ }
 {
-    let code = codes::measure_code(job, c);
+    let code = pair_codes::measure_code(job, c);
     if code != 0 {
         return Measured::Refused(code);
     }
     Measured::Within(measures_for(job, c))
 }
 
-// Verifies a circuit for a job: a pass has its measures.
+// Verifies that a circuit realizes the table of a job within its limits. A pass returns the measures.
 pub fn verify(job: &[u8], c: &[u8]) -> Measured
     ensures { λ r. ⌜ measuredAnswer r ≡ verifyOf (now (job .entry)) (now (c .entry)) ⌝ }
 {
-    let code = codes::measure_code(job, c);
+    let code = pair_codes::measure_code(job, c);
     if code != 0 {
         return Measured::Refused(code);
     }

@@ -1,19 +1,16 @@
--- After k turns nothing was found that misses fewer than k bits, and what is held is the first of those that miss k at most.
+-- Invariant: after k turns no choice was found that misses fewer than k bits, and `best` is the first of those that miss at most k.
 use mathlib.Core.Path.{_≡_, sym, ap, _∙_}
-use mathlib.Core.Bool.{true, false}
 use mathlib.Core.List.{List}
 use mathlib.Core.Option.{none}
 use Prim.Native.Nat.{ℕ, _+_, _-_, _≤_, _<_}
 use native.Mathlib.Decide.{ℕ-discrete}
 use native.Mathlib.Omega.{arith}
-use borrow.Author.Needs.{needs}
-use Rattle.fields.specs.Jobs.{dataWires, rows}
-use Rattle.choice.specs.declared.Best.{Best}
-use Rattle.choice.specs.Inner.{choice, view}
-use Rattle.choice.proofs.Held.{held-some, held-none}
+use Rattle.record.specs.job_fields.Jobs.{dataWires, rows}
+use Rattle.problem.specs.order.Inner.{choice, view}
+use Rattle.problem.proofs.order.Held.{held-some, held-none}
 use Rattle.problem.specs.Problems.{firstGood}
-use Rattle.misses.specs.Misses.{closestChoice}
-use Rattle.misses.proofs.Fewest.{fewest-found, fewest-last}
+use Rattle.near_misses.specs.misses.Misses.{closestChoice}
+use Rattle.near_misses.proofs.misses.Fewest.{fewest-found, fewest-last}
 use Rattle.outcomes.specs.Outcomes.{problemOf}
 use Rattle.approximate.proofs.Posed.{near, none-first}
 use Rattle.approximate.proofs.approach.Statement.{statement}

@@ -5,8 +5,8 @@ use borrow.Author.Needs.{needs}
 use lib.ListN.{length}
 use lib.Seq.{length-take-le}
 use Rattle.problem.specs.Problems.{firstGood}
-use Rattle.states.specs.declared.Task.{Task}
-use Rattle.loosening.specs.Loose.{loosened}
+use Rattle.walk.specs.declared.node.Task.{Task}
+use Rattle.near_misses.specs.near_offer.Loose.{loosened}
 use Rattle.outcomes.specs.Outcomes.{problemOf}
 use Rattle.search.proofs.Posed.{Handed, in-range, limited, sliced, posed}
 use Rattle.approximate.proofs.Posed.{walked-first}

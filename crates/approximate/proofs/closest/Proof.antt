@@ -6,7 +6,8 @@ use borrow.Author.Needs.{needs}
 use lib.ListN.{length}
 use Rattle.logic.specs.Answers.{Answer, refused}
 use Rattle.record.specs.JobRules.{jobCode}
-use Rattle.outcomes.specs.Outcomes.{Found, searchCode, written}
+use Rattle.outcomes.specs.Outcomes.{Found, written}
+use Rattle.record.specs.pair_codes.Codes.{searchCode}
 use Rattle.outcomes.proofs.Facts.{code-parts}
 use Rattle.approximate.specs.Calls.{Close, circuitIn, withMisses, told}
 use Rattle.approximate.proofs.Answer.{by-code, told-is, circuit-is}

@@ -1,4 +1,4 @@
--- The first record is searched for in the first cell and status byte, and the rest in the rest. The records that may come fall.
+-- The first record is searched into the first cell and status byte, and the others into the rest. The recursion ends since `most` falls.
 use Prim.Native.Nat.{ℕ, _+_, _-_, _*_, _<_, _≤_}
 use mathlib.Core.Path.{sym, _∙_}
 use mathlib.Core.List.{List}
@@ -7,13 +7,13 @@ use borrow.Author.Needs.{needs}
 use borrow.Fn.Kinds.{In}
 use borrow.Fn.PlainCycle.{Measures, is, falls, and}
 use lib.ListN.{length, take, drop}
-use Rattle.cutting.specs.Records.{records}
-use Rattle.cutting.proofs.Cutting.{none-asked, none-here, long-rest}
-use Rattle.batches.proofs.Filling.{untouched, enough, cells-grown, statuses-grown}
+use Rattle.batch.specs.cutting.Records.{records}
+use Rattle.batch.proofs.cutting.Cutting.{none-asked, none-here, long-rest}
+use Rattle.batch.proofs.cells.Filling.{untouched, enough, cells-grown, statuses-grown}
 use Rattle.batch.proofs.search_each.Reads as search-each
 use Rattle.batch.proofs.search_each.Kinds as search-each-kinds
 use Rattle.batch.proofs.+search_each.Lts-search_each as search-each-lts
-use Rattle.cutting.proofs.record_size.Reads as record-size-reads
+use Rattle.batch.proofs.cutting.record_size.Reads as record-size-reads
 use Rattle.batch.proofs.search_front.Reads as search-front-reads
 use Rattle.batch.proofs.+search_each.{statement}
 use Rattle.batch.proofs.+search_each.Tie.{close}

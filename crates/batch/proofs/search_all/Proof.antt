@@ -3,7 +3,7 @@ use mathlib.Core.Path.{sym, ap, _∙_}
 use borrow.Author.Needs.{needs}
 use lib.ListN.{length}
 use Rattle.logic.specs.Answers.{refused, answered}
-use Rattle.batches.proofs.Codes.{rooms, refusing, searching}
+use Rattle.batch.proofs.cells.Codes.{rooms, refusing, searching}
 use Rattle.batch.proofs.search_all.Statement.{statement}
 use Rattle.batch.proofs.search_all.Tie as tie
 

@@ -1,7 +1,7 @@
 use mathlib.Core.Path.{sym, ap, _∙_}
 use borrow.Author.Needs.{needs}
-use Rattle.batches.specs.Batches.{aloneOf}
-use Rattle.batches.proofs.Filling.{statusIn, status-is}
+use Rattle.batch.specs.cells.Batches.{aloneOf}
+use Rattle.batch.proofs.cells.Filling.{statusIn, status-is}
 use Rattle.batch.proofs.search_cell.Statement.{statement}
 use Rattle.batch.proofs.search_cell.Tie as tie
 

@@ -1,5 +1,5 @@
--- Prices are added up gate by gate. Invariant: the sum at hand and the cost of the gates from i on make the cost of the list; it stays
--- below 255 a gate, so that it fits.
+-- Prices are added up gate by gate. Invariant: the current sum plus the cost of the gates from i on is the cost of the list; the sum is
+-- at most 255 times i, so that the next one fits.
 use mathlib.Core.Path.{_≡_}
 use Prim.Native.Nat.{_≤_, _-_, _+_, _*_}
 use native.Mathlib.Omega.{arith}

@@ -1,4 +1,4 @@
--- The gates are tested one by one. Invariant: the gates from i on are all in order exactly where all of them are.
+-- The gates are tested one by one. Invariant: the gates from i on are all lawful exactly if all gates of the list are.
 use mathlib.Core.Path.{_≡_, refl, sym, _∙_}
 use Prim.Native.Nat.{_≤_, _-_}
 use native.Mathlib.Omega.{arith}

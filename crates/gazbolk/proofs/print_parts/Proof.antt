@@ -3,7 +3,7 @@ use mathlib.Core.Path.{_≡_}
 use Prim.Native.Nat.{_-_}
 use borrow.Author.Needs.{needs}
 use lib.ListN.{length}
-use Rattle.batch_lines.specs.Parts.{batchParts}
+use Rattle.printed.specs.batch_parts.Parts.{batchParts}
 use Rattle.gazbolk.proofs.print_parts.Statement.{statement}
 use Rattle.gazbolk.proofs.print_parts.Tie as tie
 

@@ -1,12 +1,12 @@
 -- The three columns of a sound library are its gates with their prices and durations.
 use mathlib.Core.Path.{_≡_}
-use Prim.Native.Nat.{_/_, _≤_}
+use Prim.Native.Nat.{_≤_}
 use native.Mathlib.Omega.{arith}
 use borrow.Author.Needs.{needs}
 use lib.ListN.{length}
-use Rattle.libraries.specs.Calls.{setIn}
-use Rattle.libraries.proofs.Sound.{sound-library}
-use Rattle.libraries.proofs.Columns.{tabled, lawful-column}
+use Rattle.library.specs.judge.Calls.{setIn}
+use Rattle.library.proofs.judge.Sound.{sound-library}
+use Rattle.library.proofs.judge.Columns.{tabled, lawful-column}
 use Rattle.library.proofs.first_good.Statement.{statement}
 use Rattle.library.proofs.first_good.Tie as tie
 

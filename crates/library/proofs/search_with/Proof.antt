@@ -1,14 +1,13 @@
 -- A rule broken, or the first good choice, told with its measures.
 use mathlib.Core.Path.{_≡_, sym, ap, _∙_}
-use Prim.Native.Nat.{_≤_}
 use native.Mathlib.Omega.{arith}
 use borrow.Author.Needs.{needs}
 use lib.ListN.{length}
 use Rattle.logic.specs.Answers.{Answer}
 use Rattle.outcomes.specs.Outcomes.{Found, searchOver, reported, written}
 use Rattle.outcomes.proofs.Answer.{by-code, told-is}
-use Rattle.libraries.specs.Calls.{setIn, searchWithCode, searchWith}
-use Rattle.libraries.proofs.Sound.{Searchable, searchable}
+use Rattle.library.specs.judge.Calls.{setIn, searchWithCode, searchWith}
+use Rattle.library.proofs.judge.Sound.{Searchable, searchable}
 use Rattle.library.proofs.search_with.Statement.{statement}
 use Rattle.library.proofs.search_with.Tie as tie
 

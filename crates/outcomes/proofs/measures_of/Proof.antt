@@ -4,7 +4,7 @@ use borrow.Author.Needs.{needs}
 use lib.ListN.{length, take}
 use lib.Seq.{length-take-le}
 use Rattle.circuit.specs.Measure.{weightOf}
-use Rattle.measures.specs.Measures.{measuresOf}
+use Rattle.circuit.specs.measures.Measures.{measuresOf}
 use Rattle.outcomes.proofs.measures_of.Statement.{statement}
 use Rattle.outcomes.proofs.measures_of.Tie as tie
 

@@ -10,9 +10,9 @@ use Rattle.gate.specs.Gates.{gatesFor}
 use Rattle.gate.proofs.Tables.{gates-most, gate-is}
 use Rattle.circuit.specs.declared.Weights.{Weights}
 use Rattle.circuit.specs.Measure.{weightOf}
-use Rattle.fields.specs.Jobs.{longer, mostControls, wires}
+use Rattle.record.specs.job_fields.Jobs.{longer, mostControls, wires}
 use Rattle.record.proofs.Kept.{wires-within}
-use Rattle.fields.proofs.Widths.{two-or-three}
+use Rattle.record.proofs.job_fields.Widths.{two-or-three}
 use Rattle.outcomes.specs.Outcomes.{ownSet}
 use Rattle.outcomes.specs.Inner.{Lawfuls, Tabled}
 use Rattle.outcomes.proofs.own_tables.Statement.{statement}

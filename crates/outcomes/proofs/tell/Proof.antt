@@ -6,8 +6,8 @@ use borrow.Author.Tests.{not-true, not-false}
 use borrow.Author.Needs.{needs}
 use lib.ListN.{length}
 use Rattle.logic.specs.Answers.{Answer}
-use Rattle.fields.specs.Jobs.{ancillas}
-use Rattle.writing.proofs.Copied.{record-size}
+use Rattle.record.specs.job_fields.Jobs.{ancillas}
+use Rattle.record.proofs.writing.Copied.{record-size}
 use Rattle.outcomes.specs.Outcomes.{Found, reported, written}
 use Rattle.outcomes.proofs.Answer.{missing, reached, told, wrote}
 use Rattle.outcomes.proofs.tell.Statement.{statement}

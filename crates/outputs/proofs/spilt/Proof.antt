@@ -2,7 +2,7 @@ use mathlib.Core.Path.{ap, sym, _∙_}
 use Prim.Native.Nat.{ℕ}
 use borrow.Author.Needs.{needs}
 use lib.ListN.{getD}
-use Rattle.layouts.proofs.Named.{four}
+use Rattle.table.proofs.layouts.Named.{four}
 use Rattle.columns.specs.Wanted.{dirt}
 use Rattle.outputs.proofs.spilt.Statement.{statement}
 use Rattle.outputs.proofs.spilt.Tie as tie

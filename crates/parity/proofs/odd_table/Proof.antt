@@ -5,8 +5,7 @@ use borrow.Author.Needs.{needs}
 use lib.Dec.{eqb}
 use Rattle.logic.specs.Rules.{both}
 use Rattle.table.specs.Rows.{valueOf}
-use Rattle.permuting.specs.Values.{values, permutes, inversions}
-use Rattle.parity.specs.Parity.{tableParity}
+use Rattle.parity.specs.Parity.{tableParity, values, permutes, inversions}
 use Rattle.parity.proofs.Odd.{odd-test}
 use Rattle.parity.proofs.odd_table.Statement.{statement}
 use Rattle.parity.proofs.odd_table.Tie as tie

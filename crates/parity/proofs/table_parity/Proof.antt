@@ -4,13 +4,12 @@ use Prim.Native.Nat.{_%_}
 use borrow.Author.Tests.{not-true, not-false, eq-eqb, ne-eqb}
 use borrow.Author.Needs.{needs}
 use Rattle.table.specs.Rows.{valueOf}
-use Rattle.fields.specs.Jobs.{rows}
-use Rattle.permuting.specs.Values.{inversions}
-use Rattle.parity.specs.Parity.{tableParity}
+use Rattle.record.specs.job_fields.Jobs.{rows}
+use Rattle.parity.specs.Parity.{tableParity, inversions}
 use Rattle.parity.proofs.table_parity.Statement.{statement}
 use Rattle.parity.proofs.table_parity.Tie as tie
 
--- the count of the rows, as the code has it
+-- the number of inversions modulo 2, as the code has it
 counted : (c : tie.After-inversions)
     → c .inversions .result ≡ inversions (map valueOf (rows (c .before .before .before .before .before .args .job .now))) % 2
 counted c = c .inversions .ensures ∙ ap (λ l. inversions (map valueOf l) % 2) (c .before .table .ensures)

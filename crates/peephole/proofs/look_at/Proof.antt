@@ -6,13 +6,13 @@ use native.Mathlib.Omega.{arith}
 use borrow.Author.Needs.{needs}
 use lib.ListN.{length, take}
 use lib.Seq.{length-take-le}
-use Rattle.logic.specs.Answers.{refused, answered}
+use Rattle.logic.specs.Answers.{answered}
 use Rattle.circuit.specs.declared.Weights.{Weights}
 use Rattle.circuit.specs.Measure.{weightOf, cost}
 use Rattle.outcomes.specs.Outcomes.{searchOf}
 use Rattle.outcomes.proofs.Told.{when-refused, when-found}
-use Rattle.windows.specs.Windows.{windowJob, costAt}
-use Rattle.windows.proofs.Scans.{nothing-offered, offer-long, is-offered}
+use Rattle.peephole.specs.windows.Windows.{windowJob, costAt}
+use Rattle.peephole.proofs.windows.Scans.{nothing-offered, offer-long, is-offered}
 use Rattle.peephole.specs.Inner.{offered}
 use Rattle.peephole.proofs.look_at.Statement.{statement}
 use Rattle.peephole.proofs.look_at.Tie as tie

@@ -1,5 +1,5 @@
--- The windows are looked at from the left. Invariant: where none before `from` yields, none before i does.
-use mathlib.Core.Path.{_≡_, refl, sym, ap, _∙_}
+-- The windows are looked at from the left. Invariant: if no window that begins before `from` yields, none that begins before i does.
+use mathlib.Core.Path.{_≡_, sym, ap, _∙_}
 use mathlib.Core.Bool.{true, false, true≢false}
 use mathlib.Core.List.{List}
 use mathlib.Core.Option.{none, some}
@@ -7,11 +7,11 @@ use Prim.Native.Nat.{ℕ, _+_, _-_, _≤_}
 use native.Mathlib.Omega.{arith}
 use borrow.Author.Needs.{needs}
 use lib.ListN.{length, take, drop, length-take}
-use Rattle.windows.specs.Windows.{better, windowAt}
-use Rattle.windows.specs.Inner.{Still}
-use Rattle.windows.proofs.Scans.{still-more, still-all}
+use Rattle.peephole.specs.windows.Windows.{better, windowAt}
+use Rattle.peephole.specs.windows.Inner.{Still}
+use Rattle.peephole.proofs.windows.Scans.{still-more, still-all}
 use Rattle.peephole.specs.declared.Offer.{Offer}
-use Rattle.peephole.specs.Inner.{offered, First, Scanned}
+use Rattle.peephole.specs.Inner.{offered}
 use Rattle.peephole.proofs.next_hit.Statement.{statement}
 use Rattle.peephole.proofs.next_hit.Tie as tie
 

@@ -1,16 +1,15 @@
 -- A rule broken, or the list settled and what it no longer needs cleared.
 use mathlib.Core.Path.{_≡_, sym, ap, _∙_, subst}
-use Prim.Native.Nat.{ℕ, _≤_}
 use native.Mathlib.Omega.{arith}
 use borrow.Author.Needs.{needs}
-use lib.ListN.{length, take}
+use lib.ListN.{length}
 use lib.Seq.{take-length}
 use Rattle.logic.specs.Answers.{refused}
-use Rattle.layouts.specs.Layouts.{Width}
-use Rattle.windows.specs.Windows.{rewritten}
-use Rattle.windows.specs.Listings.{rewriteCode}
-use Rattle.windows.proofs.Promises.{code-sound}
-use Rattle.windows.proofs.Calls.{refusing, finishing}
+use Rattle.table.specs.layouts.Layouts.{Width}
+use Rattle.peephole.specs.windows.Windows.{rewritten}
+use Rattle.peephole.specs.windows.Listings.{rewriteCode}
+use Rattle.peephole.proofs.windows.Promises.{code-sound}
+use Rattle.peephole.proofs.windows.Calls.{refusing, finishing}
 use Rattle.peephole.proofs.rewrite.Statement.{statement}
 use Rattle.peephole.proofs.rewrite.Tie as tie
 

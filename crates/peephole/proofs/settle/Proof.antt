@@ -1,5 +1,5 @@
--- One replacement after the other. Invariant: the gates at hand come to the same end as the first ones, and no window before `from` yields.
--- Each turn makes them cheaper.
+-- One replacement after the other. Invariant: the gates at hand come to the same end as those at entry, and no window that begins before
+-- `from` yields. Measure: each turn makes the list cheaper.
 use mathlib.Core.Path.{_≡_, refl, sym, ap, _∙_, subst}
 use mathlib.Core.List.{List, _++_}
 use Prim.Native.Nat.{ℕ, _+_, _-_, _≤_, _<_}
@@ -8,12 +8,12 @@ use borrow.Author.Tests.{not-true, not-false}
 use borrow.Author.Needs.{needs}
 use lib.ListN.{length, take, drop, length-append, length-drop}
 use lib.Seq.{take-length, take-append-le, length-take-le}
-use Rattle.windows.specs.Windows.{costAt, better, rewritten}
-use Rattle.windows.specs.Inner.{Still, spliced}
-use Rattle.windows.proofs.Steps.{rewritten-stays}
-use Rattle.windows.proofs.Scans.{turn-end, turn-cost, turn-still, turn-short}
+use Rattle.peephole.specs.windows.Windows.{costAt, better, rewritten}
+use Rattle.peephole.specs.windows.Inner.{Still, spliced}
+use Rattle.peephole.proofs.windows.Steps.{rewritten-stays}
+use Rattle.peephole.proofs.windows.Scans.{turn-end, turn-cost, turn-still, turn-short}
 use Rattle.peephole.specs.declared.Hit.{Hit}
-use Rattle.peephole.specs.Inner.{First, Scanned}
+use Rattle.peephole.specs.Inner.{First}
 use Rattle.peephole.proofs.settle.Statement.{statement}
 use Rattle.peephole.proofs.settle.Tie as tie
 

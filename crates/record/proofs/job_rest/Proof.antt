@@ -1,4 +1,4 @@
--- Each rule is what its function answers, so the chain in the code is the chain in the definition.
+-- Each function returns its rule, so the chain of rules in the code is the chain in the definition.
 use mathlib.Core.Path.{_∙_}
 use borrow.Author.Needs.{needs}
 use Rattle.logic.specs.Rules.{rule}

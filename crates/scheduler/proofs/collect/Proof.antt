@@ -5,10 +5,10 @@ use borrow.Author.Needs.{needs}
 use lib.ListN.{length}
 use Rattle.logic.specs.Answers.{Answer, refused}
 use Rattle.outcomes.specs.Outcomes.{Found, reported, written}
-use Rattle.slot.specs.Slots.{Slot, isFinished, resultOf}
-use Rattle.slot_states.specs.States.{collectCode, withSlot}
-use Rattle.slot_states.specs.Calls.{viewState}
-use Rattle.slot_states.proofs.Rules.{collect-parts, collect-refused, collect-done}
+use Rattle.scheduler.specs.slot.Slots.{Slot, isFinished, resultOf}
+use Rattle.scheduler.specs.states.States.{collectCode, withSlot}
+use Rattle.scheduler.specs.states.Calls.{viewState}
+use Rattle.scheduler.proofs.states.Rules.{collect-parts, collect-refused, collect-done}
 use Rattle.scheduler.proofs.collect.Statement.{statement}
 use Rattle.scheduler.proofs.collect.Tie as tie
 
@@ -31,7 +31,7 @@ tell-requires c κs =
     let t = e .before in
     let s = t .before .before .before .before .before .args in
     let h = collect-parts (viewState (s .slots)) (s .which) (length (s .answer .now)) (kept t) in
-    (ap isFinished (e .entry-at .ensures) ∙ h .1 .0, h .1 .1)
+    (ap isFinished (e .slot-at .ensures) ∙ h .1 .0, h .1 .1)
 
 returns-2 : tie.Need-returns-2
 unfolding viewState
@@ -43,13 +43,13 @@ returns-2 c =
     let s = w .before .before .before .args in
     let v = viewState (s .slots) in
     let d = collect-done v (s .which) (length (s .answer .now)) (kept t) in
-    let q = ap resultOf (e .entry-at .ensures) ∙ d .0 in
+    let q = ap resultOf (e .slot-at .ensures) ∙ d .0 in
     let r = u .tell .ensures in (
       r .0 ∙ ap reported q,
       (
         r .1 .0,
         (
-          w .with-entry .ensures ∙ ap (λ (x : Slot). withSlot v (s .which) x (v .last)) (w .before .vacant .ensures) ∙ d .1,
+          w .with-slot .ensures ∙ ap (λ (x : Slot). withSlot v (s .which) x (v .last)) (w .before .vacant .ensures) ∙ d .1,
           r .1 .1 ∙ ap (λ (o : Answer Found). written o (s .answer .now)) q,
         ),
       ),

@@ -2,10 +2,10 @@
 use mathlib.Core.Path.{_≡_, sym, ap, _∙_}
 use borrow.Author.Needs.{needs}
 use Rattle.logic.specs.Answers.{refused}
-use Rattle.slot.specs.Slots.{Slot}
-use Rattle.slot_states.specs.States.{postCode, withSlot}
-use Rattle.slot_states.specs.Calls.{viewState}
-use Rattle.slot_states.proofs.Rules.{post-parts, post-refused, post-accepted}
+use Rattle.scheduler.specs.slot.Slots.{Slot}
+use Rattle.scheduler.specs.states.States.{postCode, withSlot}
+use Rattle.scheduler.specs.states.Calls.{viewState}
+use Rattle.scheduler.proofs.states.Rules.{post-parts, post-refused, post-accepted}
 use Rattle.scheduler.proofs.post.Statement.{statement}
 use Rattle.scheduler.proofs.post.Tie as tie
 
@@ -33,7 +33,7 @@ returns-2 c =
     let s = t .before .before .before .args in
     let v = viewState (s .slots) in
     let r = post-accepted v (s .which) (s .job .now) (kept t) in
-    (r .0, c .with-entry .ensures ∙ ap (λ (x : Slot). withSlot v (s .which) x (v .last)) (f .fresh .ensures) ∙ r .1)
+    (r .0, c .with-slot .ensures ∙ ap (λ (x : Slot). withSlot v (s .which) x (v .last)) (f .fresh .ensures) ∙ r .1)
 
 pub post-spec : {M : Type 1} → statement M
 post-spec = tie.close (tie.spec (λ c κs. search needs) returns fresh-requires (λ c κs. search needs) returns-2)

@@ -1,8 +1,8 @@
 -- No slot working, or one that is served.
 use mathlib.Core.Path.{sym, ap, _∙_}
 use borrow.Author.Needs.{needs}
-use Rattle.slot_states.specs.Calls.{viewState, serviceAnswer}
-use Rattle.slot_states.proofs.Serving.{turn-idle, turn-served}
+use Rattle.scheduler.specs.states.Calls.{viewState, serviceAnswer}
+use Rattle.scheduler.proofs.states.Serving.{turn-idle, turn-served}
 use Rattle.scheduler.proofs.turn.Statement.{statement}
 use Rattle.scheduler.proofs.turn.Tie as tie
 
@@ -19,7 +19,7 @@ returns-2 c =
     let k = a .before .before in
     let n = k .before .before in
     let e = sym (ap serviceAnswer (k .service .given .1)) ∙ n .next-working .ensures in
-    (e, turn-served (viewState (n .before .args .slots)) (k .service .given .0 .0) _ _ _ e (a .entry-at .ensures) (v .serve .ensures) (c .with-entry .ensures))
+    (e, turn-served (viewState (n .before .args .slots)) (k .service .given .0 .0) _ _ _ e (a .slot-at .ensures) (v .serve .ensures) (c .with-slot .ensures))
 
 pub turn-spec : {M : Type 1} → statement M
 turn-spec =

@@ -1,4 +1,3 @@
-use mathlib.Core.Path.{_≡_}
 use borrow.Author.Needs.{needs}
 use Rattle.outcomes.specs.Outcomes.{ownSet}
 use Rattle.search.proofs.first_good.Statement.{statement}

@@ -6,7 +6,8 @@ use borrow.Author.Needs.{needs}
 use lib.ListN.{length}
 use Rattle.record.specs.JobRules.{jobCode}
 use Rattle.logic.specs.Answers.{Answer}
-use Rattle.outcomes.specs.Outcomes.{Found, ownSet, searchCode, searchOf, searchOver, reported, written}
+use Rattle.outcomes.specs.Outcomes.{Found, ownSet, searchOf, searchOver, reported, written}
+use Rattle.record.specs.pair_codes.Codes.{searchCode}
 use Rattle.outcomes.proofs.Facts.{code-parts}
 use Rattle.outcomes.proofs.Answer.{by-code, told-is}
 use Rattle.search.proofs.search.Statement.{statement}

@@ -1,9 +1,9 @@
 -- No search where parity rules every list out. Else the three tables are lent up to the last gate, and what is handed to the solver poses the problem of the job and these gates.
 use mathlib.Core.Path.{_≡_, sym, subst, _∙_}
-use Prim.Native.Nat.{ℕ, _≤_}
+use Prim.Native.Nat.{_≤_}
 use native.Mathlib.Omega.{arith}
 use borrow.Author.Needs.{needs}
-use lib.ListN.{length, take}
+use lib.ListN.{length}
 use lib.Seq.{length-take-le}
 use Rattle.outcomes.specs.Outcomes.{problemOver}
 use Rattle.outcomes.specs.Inner.{Lawfuls}

@@ -12,9 +12,9 @@ use Rattle.logic.proofs.Fold.{all-stop, all-step, all-end}
 use Rattle.logic.proofs.Members.{member-at}
 use Rattle.gate.specs.Gates.{lawful}
 use Rattle.gate.proofs.Tables.{gate-is}
-use Rattle.permuting.specs.Values.{differs}
-use Rattle.permutations.specs.Sizes.{twelve}
-use Rattle.permutations.specs.Inner.{neighborOf, apart}
+use Rattle.parity.specs.Parity.{differs}
+use Rattle.sizes.specs.permutations.Sizes.{twelve}
+use Rattle.sizes.specs.permutations.Inner.{neighborOf, apart}
 use Rattle.sizes.proofs.apart.Statement.{statement}
 use Rattle.sizes.proofs.apart.Tie as tie
 

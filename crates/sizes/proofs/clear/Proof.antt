@@ -1,4 +1,4 @@
--- Invariant: the cells before s hold what they shall.
+-- Invariant: the cells before s hold their values from before the first sweep.
 use mathlib.Core.Path.{_≡_, refl, _∙_}
 use mathlib.Core.List.{List}
 use Prim.Native.Nat.{ℕ, _+_, _-_, _≤_, _<_}

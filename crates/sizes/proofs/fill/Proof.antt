@@ -11,8 +11,8 @@ use lib.Seq.{length-take-le}
 use Rattle.logic.specs.Rules.{pick}
 use Rattle.logic.specs.Answers.{refused, answered}
 use Rattle.gate.specs.Gates.{gatesFor, lawful}
-use Rattle.permutations.specs.Inner.{Level}
-use Rattle.permutations.proofs.Levels.{level-first, level-last}
+use Rattle.sizes.specs.permutations.Inner.{Level}
+use Rattle.sizes.proofs.permutations.Levels.{level-first, level-last}
 use Rattle.sizes.specs.Sheet.{fillCode, fillOf, cellsLeft}
 use Rattle.sizes.proofs.fill.Statement.{statement}
 use Rattle.sizes.proofs.fill.Tie as tie

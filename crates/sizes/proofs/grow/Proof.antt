@@ -6,9 +6,9 @@ use native.Mathlib.Numerals.{add-one}
 use native.Mathlib.Omega.{arith}
 use borrow.Author.Needs.{needs}
 use lib.ListN.{length, set, length-set}
-use Rattle.permutations.specs.Sizes.{twelve}
-use Rattle.permutations.specs.Inner.{grown, Level, Swept}
-use Rattle.permutations.proofs.Levels.{swept-start, swept-turn, swept-end}
+use Rattle.sizes.specs.permutations.Sizes.{twelve}
+use Rattle.sizes.specs.permutations.Inner.{grown, Level, Swept}
+use Rattle.sizes.proofs.permutations.Levels.{swept-start, swept-turn, swept-end}
 use Rattle.sizes.proofs.grow.Statement.{statement}
 use Rattle.sizes.proofs.grow.Tie as tie
 

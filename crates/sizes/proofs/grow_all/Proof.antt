@@ -1,11 +1,11 @@
--- Invariant: the counts up to k are there.
+-- Invariant: every cell whose least count is at most k holds it, and the others hold 255.
 use mathlib.Core.Path.{_≡_, sym, _∙_, subst}
 use Prim.Native.Nat.{ℕ, suc, _-_, _≤_}
 use native.Mathlib.Numerals.{add-one}
 use native.Mathlib.Omega.{arith}
 use borrow.Author.Needs.{needs}
 use lib.ListN.{length}
-use Rattle.permutations.specs.Inner.{Level}
+use Rattle.sizes.specs.permutations.Inner.{Level}
 use Rattle.sizes.proofs.grow_all.Statement.{statement}
 use Rattle.sizes.proofs.grow_all.Tie as tie
 

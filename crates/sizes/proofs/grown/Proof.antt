@@ -6,7 +6,7 @@ use borrow.Author.Tests.{eq-eqb, ne-eqb}
 use borrow.Author.Needs.{needs}
 use lib.ListN.{getD}
 use Rattle.logic.specs.Rules.{pick}
-use Rattle.permutations.specs.Inner.{apart, grown}
+use Rattle.sizes.specs.permutations.Inner.{apart, grown}
 use Rattle.sizes.proofs.grown.Statement.{statement}
 use Rattle.sizes.proofs.grown.Tie as tie
 

@@ -2,7 +2,7 @@
 use mathlib.Core.Path.{_≡_}
 use Prim.Native.Nat.{_≤_, _-_}
 use borrow.Author.Needs.{needs}
-use Rattle.cutting.specs.Records.{countOf}
+use Rattle.batch.specs.cutting.Records.{countOf}
 use Rattle.slots.proofs.run_jobs.Statement.{statement}
 use Rattle.slots.proofs.run_jobs.Tie as tie
 

@@ -1,5 +1,5 @@
--- Short lists are looked at first, with no filter. What that finds caps the costs to try; where it finds nothing, the stages go on.
-use mathlib.Core.Path.{_≡_, sym, _∙_, subst}
+-- Short lists come first, with no filter. What that finds caps the costs to try; where it finds nothing, the stages go on.
+use mathlib.Core.Path.{_≡_, subst}
 use mathlib.Core.List.{[]}
 use Prim.Native.Nat.{ℕ, _+_, _-_}
 use native.Mathlib.Omega.{arith}
@@ -7,13 +7,13 @@ use borrow.Author.Needs.{needs}
 use borrow.Author.Tests.{not-false}
 use Rattle.problem.specs.Problems.{Problem}
 use Rattle.problem.proofs.Limits.{past-none}
-use Rattle.filters.proofs.Sieves.{no-sieve}
-use Rattle.states.specs.States.{Posed, Limited, Bounded, Supplied}
-use Rattle.deepening.specs.Deepening.{Deepened}
+use Rattle.reach_filter.proofs.fill.Sieves.{no-sieve}
+use Rattle.walk.specs.node.States.{Posed, Limited, Bounded, Supplied}
+use Rattle.solver.specs.deepening.Deepening.{Deepened}
 use Rattle.solver.specs.States.{Settled}
-use Rattle.bids.proofs.Supplies.{supplied}
+use Rattle.solver.proofs.cheaper.Supplies.{supplied}
 use Rattle.solver.proofs.Handover.{deepened-held}
-use Rattle.deepening.proofs.Searches.{no-sums}
+use Rattle.solver.proofs.deepening.Searches.{no-sums}
 use Rattle.solver.proofs.solve.Statement.{statement}
 use Rattle.solver.proofs.solve.Tie as tie
 
@@ -49,7 +49,7 @@ module _ (k : tie.After-fewest) where
     deepened =
         let e = k .before .before .before .early .ensures in
         subst (λ (l : ℕ). Deepened P l most (k .fewest .result)) (limited .cost-most)
-        (k .fewest .ensures .0 P posed bounded (omega (arith, limited .cost-most)) (omega (arith, limited .gates-most)) (past-none P (start .args .task .«cost_limit»)) (no-sums P (start .args .task .«cost_limit»)))
+        (k .fewest .ensures .0 P record { posed = posed; bounded = bounded } (omega (arith, limited .cost-most)) (omega (arith, limited .gates-most)) (past-none P (start .args .task .«cost_limit»)) (no-sums P (start .args .task .«cost_limit»)))
 
 settle-requires : tie.Need-settle-requires
 settle-requires c κs =
@@ -63,7 +63,7 @@ returns c =
     let e = k .before .before .before .early .ensures in (
       (λ P posed limited.
           let m : most k ≡ P .mostGates = omega (arith, limited .gates-most) in
-          c .ended .ensures .0 P (c .before .settle .ensures .0 P (P .mostGates) posed (bounded k P posed limited) limited
+          c .ended .ensures .0 P (c .before .settle .ensures .0 P (P .mostGates) record { posed = posed; bounded = bounded k P posed limited } limited
           (subst (λ (l : ℕ). Deepened P (P .mostCost) l (k .fewest .result)) m (deepened k P posed limited)))),
       c .ended .ensures .1,
     )
@@ -99,7 +99,7 @@ returns-3 c =
     let k = c .before .before .before .before .before .before .before .before in
     let found = not-false _ (c .before .before .before .before .before .if2 .left) in (
       (λ P posed limited.
-          c .ended3 .ensures .0 P (c .before .settle2 .ensures .0 P (P .mostGates) posed (bounded k P posed limited) limited
+          c .ended3 .ensures .0 P (c .before .settle2 .ensures .0 P (P .mostGates) record { posed = posed; bounded = bounded k P posed limited } limited
           (deepened-held P (P .mostCost) (most k) (P .mostGates) (k .fewest .result) found (deepened k P posed limited)))),
       c .ended3 .ensures .1,
     )

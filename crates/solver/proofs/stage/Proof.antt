@@ -1,7 +1,7 @@
-use mathlib.Core.Path.{_≡_, refl}
+use mathlib.Core.Path.{refl}
 use borrow.Author.Needs.{needs}
 use borrow.Author.Tests.{not-true, not-false}
-use Rattle.bids.proofs.Supplies.{supplied}
+use Rattle.solver.proofs.cheaper.Supplies.{supplied}
 use Rattle.solver.proofs.Handover.{settled-first, settled-none}
 use Rattle.solver.proofs.stage.Statement.{statement}
 use Rattle.solver.proofs.stage.Tie as tie
@@ -19,12 +19,12 @@ returns : tie.Need-returns
 returns c =
     let g = c .before .before .go-on in
     let a = c .before .before .before .before .before .before .before .before .before .before .before .before .before .before .before .args in (
-      (λ P posed bounded limited hg d. settled-none P (a .most) _ refl (g .ensures .0 P posed bounded limited hg d .failed (not-true _ (c .if1 .taken)))),
+      (λ P posed bounded limited hg d. settled-none P (a .counts .most) _ refl (g .ensures .0 P record { posed = posed; bounded = bounded } limited hg d .failed (not-true _ (c .if1 .taken)))),
       g .ensures .1,
     )
 
-outbid-requires : tie.Need-outbid-requires
-outbid-requires c κs =
+cheapest-requires : tie.Need-cheapest-requires
+cheapest-requires c κs =
     let s = c .before .before .before .before .before .before .before .before .before .before .before .before .before .before .before .before in
     let g = c .before .before .before in
     (s .pre .0, (s .pre .1 .0, ((not-false _ (c .before .if1 .left), g .go-on .ensures .1), g .before .before .before .before .filter-for .ensures (s .args .task .controls))))
@@ -35,9 +35,9 @@ returns-2 c =
     let g = e .before .before .go-on in
     let found = not-false _ (e .if1 .left) in
     let a = c .before .before .before .before .before .before .before .before .before .before .before .before .before .before .before .before .before .before .before .args in (
-      (λ P posed bounded limited hg d. settled-first P (a .most) _ refl (c .before .before .outbid .ensures .0 P posed bounded limited (g .ensures .0 P posed bounded limited hg d .first found))),
-      c .before .before .outbid .ensures .1,
+      (λ P posed bounded limited hg d. settled-first P (a .counts .most) _ refl (c .before .before .cheapest .ensures .0 P record { posed = posed; bounded = bounded } limited (g .ensures .0 P record { posed = posed; bounded = bounded } limited hg d .first found))),
+      c .before .before .cheapest .ensures .1,
     )
 
 pub stage-spec : {M : Type 1} → statement M
-stage-spec = tie.close (tie.spec (λ c κs. search needs) (λ c κs. search needs) (λ c κs. search needs) go-on-requires (λ c. search needs) returns outbid-requires (λ c. search needs) returns-2)
+stage-spec = tie.close (tie.spec (λ c κs. search needs) (λ c κs. search needs) (λ c κs. search needs) go-on-requires (λ c. search needs) returns cheapest-requires (λ c. search needs) returns-2)

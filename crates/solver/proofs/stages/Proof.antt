@@ -59,4 +59,4 @@ returns-3 c =
 pub stages-spec : {M : Type 1} → statement M
 stages-spec =
     tie.close
-    (tie.spec (λ c κs. c .before .before .before .pre .1 .1 .1 .0) stage-requires returns stage-requires-2 returns-2 (λ c κs. search needs) (λ c. let t = c .before .before .before .before .before .turn-for .ensures in search needs) stage-requires-3 returns-3)
+    (tie.spec (λ c κs. c .before .before .before .pre .1 .1 .1 .0) stage-requires returns stage-requires-2 returns-2 (λ c. let t = c .before .before .before .before .turn-for .ensures in search needs) (λ c κs. search needs) stage-requires-3 returns-3)

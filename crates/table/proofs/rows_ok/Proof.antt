@@ -1,4 +1,4 @@
--- The rows are tested one by one. Invariant: the rows from i on are all in order exactly where all of them are.
+-- The rows are tested one by one. Invariant: the rows from i on are all in order exactly if all rows are.
 use mathlib.Core.Path.{_≡_, refl, sym, _∙_}
 use Prim.Native.Nat.{_≤_, _-_}
 use native.Mathlib.Omega.{arith}

@@ -1,9 +1,9 @@
 -- Six pieces, each written after the last: together they are the line, and the rest of the buffer stays.
 use native.Mathlib.Omega.{arith}
 use borrow.Author.Needs.{needs}
-use Rattle.pieces.specs.Text.{foundLine}
-use Rattle.pieces.specs.Writing.{Wrote}
-use Rattle.pieces.proofs.Pieces.{more, line-size, line-in-front, spaced-short, hex-length, found-short}
+use Rattle.text.specs.pieces.Text.{foundLine}
+use Rattle.text.specs.pieces.Writing.{Wrote}
+use Rattle.text.proofs.pieces.Pieces.{more, line-size, line-in-front, spaced-short, hex-length, found-short}
 use Rattle.text.proofs.found_line.Statement.{statement}
 use Rattle.text.proofs.found_line.Tie as tie
 

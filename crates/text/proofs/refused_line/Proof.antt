@@ -1,6 +1,6 @@
 use native.Mathlib.Omega.{arith}
 use borrow.Author.Needs.{needs}
-use Rattle.pieces.proofs.Pieces.{line-size, line-in-front, refused-short}
+use Rattle.text.proofs.pieces.Pieces.{line-size, line-in-front, refused-short}
 use Rattle.text.proofs.refused_line.Statement.{statement}
 use Rattle.text.proofs.refused_line.Tie as tie
 

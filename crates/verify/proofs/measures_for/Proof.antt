@@ -3,8 +3,8 @@ use native.Mathlib.Omega.{arith}
 use borrow.Author.Needs.{needs}
 use lib.ListN.{length}
 use Rattle.circuit.specs.Measure.{weightOf}
-use Rattle.circuit_rules.proofs.Sound.{sound-circuit}
-use Rattle.measures.specs.Measures.{measuresOf}
+use Rattle.record.proofs.circuit_rules.Sound.{sound-circuit}
+use Rattle.circuit.specs.measures.Measures.{measuresOf}
 use Rattle.verify.proofs.measures_for.Statement.{statement}
 use Rattle.verify.proofs.measures_for.Tie as tie
 

@@ -1,10 +1,10 @@
--- Two lists of rules: what breaks none of the first is a well-formed job and a sound circuit, as the second asks.
+-- Two lists of rules: past the first the job is well-formed and the circuit sound, as the second requires.
 use mathlib.Core.Path.{_≡_, ap, sym, _∙_}
 use borrow.Author.Tests.{ne-eqb}
 use borrow.Author.Needs.{needs}
 use Rattle.logic.specs.Answers.{answered}
-use Rattle.judging.specs.Judging.{verifyRest}
-use Rattle.verify.specs.Calls.{measuresFor, measureCode, verifyOf, verifyCode}
+use Rattle.verify.specs.Calls.{measuresFor, verifyOf, verifyCode, verifyRest}
+use Rattle.record.specs.pair_codes.Codes.{measureCode}
 use Rattle.verify.proofs.Codes.{Parts, measure-parts}
 use Rattle.verify.proofs.verify.Statement.{statement}
 use Rattle.verify.proofs.verify.Tie as tie

@@ -6,11 +6,11 @@ use mathlib.Core.Option.{Option}
 use native.Mathlib.Omega.{arith}
 use borrow.Author.Needs.{needs}
 use lib.ListN.{take}
-use Rattle.choice.specs.Choices.{Choice}
-use Rattle.choice.specs.Inner.{view}
-use Rattle.pruned.specs.Pruned.{triedUnder}
-use Rattle.states.specs.States.{needless, Exact}
-use Rattle.states.proofs.Forms.{nothing-lost}
+use Rattle.problem.specs.order.Choices.{Choice}
+use Rattle.problem.specs.order.Inner.{view}
+use Rattle.problem.specs.pruned.Pruned.{triedUnder}
+use Rattle.walk.specs.node.States.{needless, Exact}
+use Rattle.walk.proofs.node.Forms.{nothing-lost}
 use Rattle.walk.proofs.run.Statement.{statement}
 use Rattle.walk.proofs.run.Tie as tie
 
@@ -28,12 +28,12 @@ returns c =
     let s = c .before .before .before .before .before .before .before .before in
     let a = s .args in
     let root = c .before .before .root in (
-      (λ P posed bounded exact.
-          c .dfs .ensures .0 P posed bounded (root .ensures .1 P (bounded .needed))
-          (subst (λ (n : ℕ). Exact P (a .task .«cost_limit») (take n (root .result .path)) (a .most) (a .sums .now)) (sym (root .ensures .0 .0)) exact)
-          ∙ ap (λ (n : ℕ). triedUnder needless P (a .task .«cost_limit») (take n (root .result .path)) (a .most) (view (c .before .nothing .result))) (root .ensures .0 .0)
-          ∙ ap (λ (x : Option Choice). triedUnder needless P (a .task .«cost_limit») [] (a .most) x) (c .before .nothing .ensures .0)
-          ∙ nothing-lost P (a .task) (posed .asks) (a .task .«cost_limit») (a .most)),
+      (λ P given exact.
+          c .dfs .ensures .0 P given (root .ensures .1 P (given .bounded .needed))
+          (subst (λ (n : ℕ). Exact P (a .setup .task .«cost_limit») (take n (root .result .path)) (a .most) (a .sums .now)) (sym (root .ensures .0 .0)) exact)
+          ∙ ap (λ (n : ℕ). triedUnder needless P (a .setup .task .«cost_limit») (take n (root .result .path)) (a .most) (view (c .before .nothing .result))) (root .ensures .0 .0)
+          ∙ ap (λ (x : Option Choice). triedUnder needless P (a .setup .task .«cost_limit») [] (a .most) x) (c .before .nothing .ensures .0)
+          ∙ nothing-lost P (a .setup .task) (given .posed .asks) (a .setup .task .«cost_limit») (a .most)),
       c .dfs .ensures .1,
     )
 

@@ -1,0 +1,2 @@
+pub mod cutting
+pub mod cells

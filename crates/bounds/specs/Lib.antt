@@ -1,0 +1,3 @@
+pub mod budget
+pub mod sums
+pub mod span

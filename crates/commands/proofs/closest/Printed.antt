@@ -1,0 +1,26 @@
+-- A job too long to be sound is refused by its length, so its later bytes decide nothing.
+use mathlib.Core.Path.{_≡_, ap, _∙_}
+use mathlib.Core.List.{List}
+use Prim.Native.Nat.{ℕ, _<_}
+use native.Mathlib.Omega.{arith}
+use lib.ListN.{length}
+use Rattle.logic.proofs.Prefixes.{told-by}
+use Rattle.record.proofs.Long.{long-job}
+use Rattle.record.specs.pair_codes.Codes.{searchCode}
+use Rattle.reports.specs.refusal.Report.{refusedText}
+use Rattle.approximate.proofs.Answer.{by-code}
+use Rattle.printed.specs.misses.Closeness.{printed, closestText, TellingJob}
+
+-- a job longer than any sound one
+long-code : (job : List ℕ) → 30 < length job → searchCode job 15 ≡ 1
+unfolding searchCode
+long-code job h = rw (long-job job h)
+
+long-text : (job : List ℕ) → 30 < length job → closestText job ≡ refusedText 1
+unfolding closestText
+long-text job h =
+    let e = long-code job h in
+    ap printed (by-code job 15 (λ z. omega arith)) ∙ ap refusedText e
+
+pub telling-job : (room : ℕ) → 30 < room → TellingJob room
+telling-job room h = told-by closestText (refusedText 1) 30 long-text room h

@@ -1,3 +1,0 @@
-pub mod Library
-pub mod Calls
-pub mod Demand

@@ -1,2 +1,0 @@
-pub mod MissLines
-pub mod Inner

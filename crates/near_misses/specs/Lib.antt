@@ -1,0 +1,2 @@
+pub mod misses
+pub mod near_offer

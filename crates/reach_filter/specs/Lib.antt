@@ -1,0 +1,2 @@
+pub mod mirrors
+pub mod fill

@@ -1,0 +1,33 @@
+-- Bounds that hold because a job consists of bytes: on one price or duration, and on their sum over a gate list.
+use mathlib.Core.Bool.{Bool, true, false}
+use mathlib.Core.List.{List, [], _∷_}
+use Prim.Native.Nat.{ℕ, _+_, _*_, _≤_}
+use native.Mathlib.Omega.{arith}
+use lib.ListN.{length, getD}
+use Rattle.logic.specs.Rules.{pick}
+use Rattle.logic.specs.Lists.{total}
+use Rattle.gate.specs.declared.Kind.{Kind}
+use Rattle.gate.specs.declared.Kind.the-variants.{Not, Cnot, Toffoli, Cccnot}
+use Rattle.gate.specs.Gates.{gateOf}
+use Rattle.circuit.specs.Measure.{weightFor, weightOf}
+use Rattle.record.specs.job_fields.Jobs.{longer, weightsAt, prices, priceOf, Bytes}
+
+-- no price or duration is above 255, so those of twelve gates add up to at most 3,060
+pub weight-small : (four : Bool) (job : List ℕ) (i : ℕ) → Bytes job → (κ : Kind) → weightFor (weightsAt four job i) κ ≤ 255
+weight-small four job i small Not = omega (arith, small i)
+weight-small four job i small (Cnot a) = omega (arith, small (i + 1))
+weight-small four job i small (Toffoli a b) = omega (arith, small (i + 2))
+weight-small four job i small (Cccnot a b c) = picked four
+  where
+    picked : (t : Bool) → pick t (getD job (i + 3) 0) 0 ≤ 255
+    picked true = omega (arith, small (i + 3))
+    picked false = omega arith
+
+pub price-small : (job : List ℕ) → Bytes job → (b : ℕ) → priceOf job b ≤ 255
+unfolding prices weightOf
+price-small job small b = weight-small (longer job) job 6 small (gateOf b .kind)
+
+pub total-small : (f : ℕ → ℕ) → ((b : ℕ) → f b ≤ 255) → (l : List ℕ) → total f l ≤ 255 * length l
+unfolding total
+total-small f h [] = omega arith
+total-small f h (b ∷ l) = omega (arith, h b, total-small f h l)

@@ -1,0 +1,2 @@
+pub mod sentences
+pub mod refusal

@@ -1,0 +1,13 @@
+-- The answer of reading a text: a refusal with the documents' number, or the length of the record.
+use Prim.Native.Nat.{ℕ}
+use Rattle.logic.specs.Answers.{Answer, refused, answered}
+use Rattle.revlib_reader.specs.declared.Parsed.{Parsed}
+
+abbrev pub parsedAnswer : Parsed → Answer ℕ
+parsedAnswer (Parsed.Refused code) = refused code
+parsedAnswer (Parsed.Record size) = answered size
+
+-- the length of the record, 0 for a refusal: callers cut their buffer there
+abbrev pub sizeIn : Parsed → ℕ
+sizeIn (Parsed.Refused code) = 0
+sizeIn (Parsed.Record size) = size

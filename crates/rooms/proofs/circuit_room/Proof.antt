@@ -1,7 +1,0 @@
-use native.Mathlib.Omega.{arith}
-use Rattle.rooms.proofs.Rooms.{telling-circuit}
-use Rattle.rooms.proofs.circuit_room.Statement.{statement}
-use Rattle.rooms.proofs.circuit_room.Tie as tie
-
-pub circuit-room-spec : {M : Type 1} → statement M
-circuit-room-spec = tie.close (tie.spec (λ c. (telling-circuit 4097 (omega arith), omega arith)))

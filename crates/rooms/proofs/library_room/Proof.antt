@@ -1,7 +1,0 @@
-use native.Mathlib.Omega.{arith}
-use Rattle.rooms.proofs.Rooms.{telling-library}
-use Rattle.rooms.proofs.library_room.Statement.{statement}
-use Rattle.rooms.proofs.library_room.Tie as tie
-
-pub library-room-spec : {M : Type 1} → statement M
-library-room-spec = tie.close (tie.spec (λ c. (telling-library 226 (omega arith), omega arith)))

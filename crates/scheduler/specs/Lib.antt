@@ -1,0 +1,4 @@
+pub mod candidates
+pub mod slot
+pub mod states
+pub mod fairness

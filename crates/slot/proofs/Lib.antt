@@ -1,3 +1,0 @@
-pub mod Counts
-pub mod Entries
-pub mod Trying

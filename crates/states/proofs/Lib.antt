@@ -1,4 +1,0 @@
-pub mod Nodes
-pub mod Forms
-pub mod Reaches
-pub mod Exactly

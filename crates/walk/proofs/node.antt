@@ -1,0 +1,4 @@
+pub mod Nodes
+pub mod Forms
+pub mod Pruning
+pub mod Exactly

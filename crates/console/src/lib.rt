@@ -1,5 +1,5 @@
-// The programs' side of input and output: printing to standard output, and the lines of data files. Nothing proved stands on it but the
-// programs.
+// The programs' side of input and output: printing to standard output, and the lines of data files. Only programs and the code of
+// `main` use it.
 //
 // - `output`: texts and numbers printed;
 // - `slot_lines`: the answer of a search as lines, with the ready times of what was found;

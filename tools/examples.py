@@ -1,12 +1,13 @@
-"""Writes the files of examples/ and what `gazbolk` must print for them.
+"""Writes the files of examples/, those at the limits of each length, and what `gazbolk` must print for them.
 
-The circuits' texts are given here as text and read by the few lines below, the
-verdicts and what is found come from the model in reference.py, which tries every
-list: nothing comes from the proved program.
+The texts of examples/ are given here as text and read by the few lines below, the long
+ones by revlib_text.py; the verdicts and what is found come from the model in reference.py,
+which tries every list: nothing comes from the proved program.
 Run it in the repository's root: python3 tools/examples.py
 """
 
 import os
+import random
 
 import batch_vectors
 import closest_vectors
@@ -14,6 +15,7 @@ import jobs
 import library_vectors
 import price_vectors
 import reference
+import revlib_text
 import rewrite_vectors
 
 GIFT = [int(digit, 16) for digit in "1A4C6F392DB7508E"]
@@ -53,11 +55,16 @@ t3 a d c
 .end
 """
 
-MEANINGS = {14: "no circuit within the limits realizes the table",
+MEANINGS = {1: "the job is not 20, 22, 28 or 30 bytes long",
+            14: "no circuit within the limits realizes the table",
             15: "the job allows the plain layout only",
             16: "the circuit does not realize the table",
+            22: "the text departs from the form of a circuit",
+            23: "the text has more than 12 gates",
             26: "the batch is not up to 64 whole records of 20 or 28 bytes",
+            29: "the library is not up to 75 entries of three bytes each",
             31: "the circuit has a gate that is not in the library",
+            33: "the list has more than 4,096 gates",
             34: "a gate of the list is not lawful, or has three controls",
             38: "the jobs differ in more than one price, or limit the cost"}
 
@@ -104,7 +111,16 @@ def refusal(code):
     return f"refused {code}\n{MEANINGS[code]}\n"
 
 
+def described(text):
+    """The record that a text describes, or the number that refuses it."""
+    code, circuit = revlib_text.read_call(text, 15)
+    return code or circuit
+
+
 def verdict(job, circuit, gates=None):
+    """What verifying prints; a text that describes no circuit is given by its number."""
+    if isinstance(circuit, int):
+        return refusal(circuit)
     if gates is None:
         code, measures = reference.verify_call(job, circuit)
     else:
@@ -117,13 +133,15 @@ def verdict(job, circuit, gates=None):
 
 
 def finding(job, gates=None):
-    """What a search prints, at prices 1, 1, 5 and durations 1, 1, 7."""
-    asked = reference.read_job(job)
-    gates = library(reference.gate_table(asked.n)) if gates is None else gates
-    code, circuit = reference.search_with_call(job, gates, 15)
+    """What a search prints, with the job's own gates or with a library."""
+    code = reference.check_job(job)
+    if not code:
+        gates = library_vectors.full(job) if gates is None else gates
+        code, circuit = reference.search_with_call(job, gates, 15)
     if code:
         return refusal(code)
-    measures = reference.measures_of(reference.read_circuit(circuit).gates, asked.prices, asked.durations)
+    price, duration = ({entry[0]: entry[i] for entry in reference.entries_of(gates)} for i in (1, 2))
+    measures = reference.measures_by(reference.read_circuit(circuit).gates, price, duration)
     return "found {} {} {} {}\n".format(*measures, circuit.hex().upper())
 
 
@@ -159,9 +177,13 @@ def change(old, new):
 
 
 def nearest(job):
-    """What the closest circuit of a sound job prints."""
+    """What the closest circuit of a job prints."""
+    code = reference.check_job(job)
+    if code:
+        return refusal(code)
+    asked = reference.read_job(job)
     misses, cost, count, depth, layout, gates = closest_vectors.brute(job)
-    circuit = bytes([job[0] & 0xF8, layout, count, *gates])
+    circuit = bytes([asked.n << 5 | asked.m << 3 | asked.longer, layout, count, *gates])
     return "misses %d\nfound %d %d %d %s\n" % (misses, count, cost, depth, circuit.hex().upper())
 
 
@@ -174,6 +196,60 @@ def rewriting(file):
     new = rewrite_vectors.rewritten(rewrite_vectors.Answers(wires, window, prices), window, gates)
     before, after = ("%d %d" % (len(part), sum(rewrite_vectors.price(prices, g) for g in part)) for part in (gates, new))
     return "before %s\nafter %s\n%s\n" % (before, after, bytes(new).hex().upper())
+
+
+def edges():
+    """Files at the limits of each length and one byte past them, which none of examples/ comes near."""
+    table = reference.gate_table(4)
+    batch = b"".join(jobs.job(jobs.after([table[i % 28]], 4), 1 if i < 56 else 0) for i in range(64))
+    gates = bytes([3, 2, 1, 1, 5] + random.Random(36).choices(reference.gate_table(3), k=4097))
+    long4 = jobs.job(jobs.after([THREE], 4), 1, **jobs.LONG)
+    wide = jobs.job(jobs.after([THREE], 4), 1, m=1, **jobs.LONG)
+    text = revlib_text.text_of(b"abc", None, [[0]] * 803 + [[0, 1]] * 4)
+    files = {
+        "whole.batch": batch,
+        "over.batch": batch + b"\0",
+        "whole.gates": gates[:-1],
+        "over.gates": gates,
+        "many.real": revlib_text.text_of(b"abc", None, [[0, 1, 2]] * 20),
+        "whole.real": text,
+        "over.real": text + b"\n",
+        "long3.job": jobs.job(jobs.after([0x43], 3), 1, **jobs.LONG),
+        "long4.job": long4,
+        "cheap4.job": long4[:9] + b"\4" + long4[10:],
+        "over.job": long4 + b"\0",
+        "wide.job": wide,
+        "whole.library": library_vectors.full(wide),
+        "over.library": library_vectors.full(wide) + b"\0",
+        "three.circuit": bytes([0x81, 0x1B, 1, THREE]),
+    }
+    sizes = {"whole.batch": 1792, "over.batch": 1793, "whole.gates": 5 + 4096, "over.gates": 5 + 4097, "many.real": 233, "whole.real": 4096,
+             "over.real": 4097, "long3.job": 22, "long4.job": 30, "over.job": 31, "whole.library": 225, "over.library": 226}
+    assert all(len(files[name]) == size for name, size in sizes.items())
+    return files
+
+
+EDGE_COMMANDS = [
+    ("batch", "whole.batch"),
+    ("batch", "over.batch"),
+    ("rewrite", "whole.gates"),
+    ("rewrite", "over.gates"),
+    ("verify", "across.job", "many.real"),
+    ("verify", "across.job", "whole.real"),
+    ("verify", "across.job", "over.real"),
+    ("search", "long3.job"),
+    ("search", "long4.job"),
+    ("search", "over.job"),
+    ("search", "wide.job", "whole.library"),
+    ("search", "wide.job", "over.library"),
+    ("verify", "long4.job", "three.circuit"),
+    ("verify", "over.job", "three.circuit"),
+    ("verify", "long4.job", "three.circuit", "over.library"),
+    ("compare", "long4.job", "cheap4.job"),
+    ("compare", "long4.job", "over.job"),
+    ("closest", "long4.job"),
+    ("closest", "over.job"),
+]
 
 
 def put(folder, name, content):
@@ -198,10 +274,10 @@ def main():
         "line.library": library(LINE),
     }
     far = files["across.job"]
-    files["morning.batch"] = far + jobs.job(jobs.after([0x25, 0x0A], 4), 2) + far[:1] + b"\x0d" + far[2:] + jobs.job(across, 0) + far
+    files["five.batch"] = far + jobs.job(jobs.after([0x25, 0x0A], 4), 2) + far[:1] + b"\x0d" + far[2:] + jobs.job(across, 0) + far
     files["cnot1.job"], files["cnot5.job"] = (jobs.job(jobs.after([0x21], 3), 4, prices=(0, price, 1)) for price in (1, 5))
     files["swap2.job"] = jobs.job(closest_vectors.SAMPLE, 2)
-    files["cut.batch"] = files["morning.batch"][:-1]
+    files["cut.batch"] = files["five.batch"][:-1]
     files["twice.gates"] = bytes([4, 4, 1, 1, 5] + TWICE)
     files["three.gates"] = files["twice.gates"] + bytes([THREE])
     records = {
@@ -211,6 +287,9 @@ def main():
     }
     for name, content in files.items():
         put("examples", name, content)
+    limits = edges()
+    records.update({name: described(content) for name, content in limits.items() if name.endswith(".real")})
+    files.update(limits)
     commands = [
         ("verify", "gift.job", "gift.circuit"),
         ("verify", "gift.job", "gift.real"),
@@ -220,13 +299,14 @@ def main():
         ("search", "across.job"),
         ("search", "across.job", "line.library"),
         ("search", "across3.job", "line.library"),
-        ("batch", "morning.batch"),
+        ("batch", "five.batch"),
         ("batch", "cut.batch"),
         ("compare", "cnot1.job", "cnot5.job"),
         ("compare", "across.job", "across3.job"),
         ("closest", "swap2.job"),
         ("rewrite", "twice.gates"),
         ("rewrite", "three.gates"),
+        *EDGE_COMMANDS,
     ]
     says = {"verify": verdict, "search": finding, "batch": lines, "compare": change, "closest": nearest, "rewrite": rewriting}
     printed = ""
@@ -241,8 +321,9 @@ def main():
     with open(os.path.join("tools", "usage.txt")) as file:
         put(os.path.join("crates", "gazbolk"), "stdout", printed + file.read())
     for asked in ("gift.job", "example4.job"):
-        for given in records:
+        for given in ("gift.circuit", "gift.real", "example4.real"):
             print(asked, given, verdict(files[asked], records[given]).replace("\n", " "))
 
 
-main()
+if __name__ == "__main__":
+    main()

@@ -7,7 +7,7 @@ usage: price_vectors.py DATA_FILE STDOUT_FILE [--bench FOLDER]
     gap OLD NEW             the difference of two costs of two bytes each
 
 The job's checks are those of reference.py, the rules of 38 are written out below from document 02, and bench/brute.rs finds the
-circuits. Each difference is held to the bounds that the slip names. STDOUT_FILE holds the lines of the calls before; lines from the
+circuits. Each difference is held to the bounds that the request names. STDOUT_FILE holds the lines of the calls before; lines from the
 first heading of this file on are replaced.
 """
 import argparse

@@ -306,7 +306,7 @@ def parity_call(job):
 
 
 # ---- with a library -------------------------------------------------------
-# Document 02's buyer's gate table: three bytes an entry, gate, price, duration.
+# Document 02's gate table of a caller: three bytes an entry, gate, price, duration.
 
 LIBRARY_AT_MOST = 225
 

@@ -45,11 +45,11 @@ def least_counts():
     return counts
 
 
-def tally(sheet):
+def tally(cells):
     lines = ["40319 refused 25", "40321 refused 25", "untouched 40321", "40320 filled", "untouched 1"]
-    lines += [f"gates {k}: {sheet.count(k)}, published {n}" for k, n in enumerate(PUBLISHED)]
-    lines += [f"more: {sum(c >= len(PUBLISHED) for c in sheet)}"]
-    return lines + [f"cell {place}: {sheet[place]}" for place in PLACES]
+    lines += [f"gates {k}: {cells.count(k)}, published {n}" for k, n in enumerate(PUBLISHED)]
+    lines += [f"more: {sum(c >= len(PUBLISHED) for c in cells)}"]
+    return lines + [f"cell {place}: {cells[place]}" for place in PLACES]
 
 
 def shortest_lists(counts, values):
@@ -111,10 +111,10 @@ def main():
         parser.add_argument(name)
     args = parser.parse_args()
     counts, order = least_counts(), list(itertools.permutations(range(8)))
-    sheet = [counts[values] for values in order]
-    assert [sheet.count(k) for k in range(9)] == PUBLISHED and len(sheet) == sum(PUBLISHED) == 40320
+    cells = [counts[values] for values in order]
+    assert [cells.count(k) for k in range(9)] == PUBLISHED and len(cells) == sum(PUBLISHED) == 40320
     with open(args.tally, "w", newline="\n") as file:
-        file.write("\n".join(tally(sheet)) + "\n")
+        file.write("\n".join(tally(cells)) + "\n")
     s = searches(counts, order)
     with open(args.next) as file:
         following = file.readline()

@@ -189,6 +189,7 @@ def script():
     s = Script()
     s.turns(2)                                       # nothing working
     s.collect(0), s.collect(7), s.collect(8), s.collect(255, 0)
+    s.collect(0, 14)                                 # an empty slot and no room: 37 before 13
     s.post(8, job(3, SWAP, 0)), s.post(8, b''), s.post(3, b''), s.post(3, job(3, SWAP, 13))
     s.post(3, job(3, SAME, 0))                       # one candidate: finished by its first turn
     s.post(3, b'')                                   # 36 before 1
@@ -199,6 +200,7 @@ def script():
     s.post(3, job(3, [0] * 8, 1, care=0)), s.post(4, job(3, CNOT, 1, prices=(1, 1, 5, 9), durations=(1, 1, 7, 9)))
     s.post(5, job(3, SAME, 1, m=1)), s.post(6, job(4, SAME4, 1)), s.post(7, job(4, [1 ^ x for x in range(16)], 1, prices=(0, 0, 0, 0), durations=(1, 1, 1, 1)))
     s.post(0, job(3, SAME, 0)), s.collect(6)
+    s.collect(6, 14)                                 # a working slot and no room: 37 before 13
     for _ in range(30):
         s.turns(8)
         for i in range(8):
@@ -252,8 +254,13 @@ def write(path, data):
         f.write(data)
 
 
-s = script()
-write('crates/slots_vectors/data/script', s.bytes)
-write('crates/slots_vectors/stdout', ('\n'.join(s.lines) + '\n').encode())
-write('crates/slots/data/jobs', b''.join(jobs()))
-write('crates/slots/stdout', ('\n'.join(worked(jobs())) + '\n').encode())
+def main():
+    s = script()
+    write('crates/slots_vectors/data/script', s.bytes)
+    write('crates/slots_vectors/stdout', ('\n'.join(s.lines) + '\n').encode())
+    write('crates/slots/data/jobs', b''.join(jobs()))
+    write('crates/slots/stdout', ('\n'.join(worked(jobs())) + '\n').encode())
+
+
+if __name__ == '__main__':
+    main()

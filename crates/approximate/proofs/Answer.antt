@@ -12,7 +12,7 @@ use Rattle.circuit.specs.declared.measures.Measures.{Measures}
 use Rattle.circuit.specs.measures.Measures.{measuresOf}
 use Rattle.problem.specs.declared.order.Best.{Best}
 use Rattle.problem.specs.order.Choices.{Choice}
-use Rattle.problem.specs.order.Inner.{choice, view}
+use Rattle.problem.specs.order.View.{choice, view}
 use Rattle.problem.proofs.order.Held.{held-some, held-none}
 use Rattle.near_misses.specs.misses.Misses.{missedIn}
 use Rattle.near_misses.proofs.misses.Fewest.{closest-misses}

@@ -21,6 +21,7 @@ use Rattle.table.proofs.Rows.{bare-clean}
 use Rattle.record.specs.JobRules.{jobLengthOk, sizeOk, headOk, limitOk, durationsOk, rowsOk, jobCode}
 use Rattle.record.specs.job_fields.Jobs.{dataWires, freeLayout, rows, priceOf, durationOf}
 use Rattle.record.proofs.Kept.{sound-job}
+use Rattle.record.proofs.Never.{search-code-never, one-number, no-number, answer-never}
 use Rattle.circuit.specs.measures.Measures.{measuresOf}
 use Rattle.problem.specs.order.Choices.{Choice}
 use Rattle.problem.specs.Problems.{choiceOf, good, firstGood}
@@ -155,6 +156,16 @@ never-fourteen job room h = by-code-of (ℕ-discrete (searchCode job room) 0)
     by-code-of : Dec (searchCode job room ≡ 0) → ⊥
     by-code-of (yes z) = let a = sym (always job room z .1) ∙ h in let w : _≡_ {A = ℕ} 0 1 = cc in absurd (omega arith)
     by-code-of (no n) = let k = sym (by-code job room n) ∙ h in let e : searchCode job room ≡ 14 = cc in code-never job room e
+
+-- nor is 11
+pub closest-never : (job : List ℕ) (room : ℕ) → closestOf job room ≡ refused 11 → ⊥
+unfolding closestOf
+closest-never job room =
+    answer-never 11 (searchCode job room) (closeOf job (closestFor job)) (search-code-never job room) (by-choice (closestFor job))
+  where
+    by-choice : (o : Option Choice) → closeOf job o ≡ refused 11 → ⊥
+    by-choice none h = omega (arith, one-number 11 14 h)
+    by-choice (some c) h = no-number 11 (record { circuit = foundOf (ownSet job) job c; misses = missedIn (rows job) c }) h
 
 -- 3. Nothing is missed exactly where the search finds a circuit, and then both answer with the same record and measures.
 module _ (job : List ℕ) where

@@ -1,4 +1,4 @@
--- What `closest` answers (document 02, slip 10).
+-- What `closest` answers (document 02, change request 10).
 use mathlib.Core.List.{List}
 use mathlib.Core.Option.{Option, none, some}
 use Prim.Native.Nat.{ℕ}
@@ -59,6 +59,6 @@ nearestAnswer (Nearest.Refused code) = refused code
 nearestAnswer (Nearest.Found size m k) = answered (record { report = record { size = size; measures = m }; misses = k })
 
 -- the length of the record in an answer, 0 for a refusal
-abbrev pub sizeIn : Nearest → ℕ
-sizeIn (Nearest.Refused code) = 0
-sizeIn (Nearest.Found size m k) = size
+abbrev pub nearestSize : Nearest → ℕ
+nearestSize (Nearest.Refused code) = 0
+nearestSize (Nearest.Found size m k) = size

@@ -12,12 +12,11 @@ ghost use Prim.Native.Nat.{_≤_};
 ghost use lib.ListN.{length};
 ghost use Rattle.record.specs.JobRules.{jobCode};
 ghost use Rattle.record.specs.job_fields.Jobs.{dataWires, rows};
-ghost use Rattle.problem.specs.order.Inner.{view};
+ghost use Rattle.problem.specs.order.View.{view};
 ghost use Rattle.problem.specs.Problems.{firstGood};
 ghost use Rattle.near_misses.specs.misses.Misses.{missingAtMost};
-ghost use Rattle.outcomes.specs.Outcomes.{problemOf, written, searchedAnswer};
-ghost use Rattle.outcomes.specs.Outcomes as outcomes;
-ghost use Rattle.approximate.specs.Calls.{fewestFor, closestFor, closestOf, circuitIn, withMisses, told, nearestAnswer, sizeIn};
+ghost use Rattle.outcomes.specs.Outcomes.{problemOf, written, searchedAnswer, sizeIn};
+ghost use Rattle.approximate.specs.Calls.{fewestFor, closestFor, closestOf, circuitIn, withMisses, told, nearestAnswer, nearestSize};
 
 // The answer: a refusal code, or the record's length, its measures, and the number of wanted bits missed.
 pub enum Nearest {
@@ -75,7 +74,7 @@ fn approach(job: &[u8]) -> Near
 // A search's answer, with the number of wanted bits missed.
 fn with_misses(searched: Searched, k: usize) -> Nearest
     ensures { λ r. ⌜ nearestAnswer r ≡ withMisses k (searchedAnswer searched) ⌝ }
-    ensures { λ r. ⌜ sizeIn r ≡ outcomes.sizeIn searched ⌝ }
+    ensures { λ r. ⌜ nearestSize r ≡ sizeIn searched ⌝ }
 {
     match searched {
         Searched::Refused(code) => Nearest::Refused(code),
@@ -87,7 +86,7 @@ fn with_misses(searched: Searched, k: usize) -> Nearest
 // record to the front of `answer`.
 pub fn closest(job: &[u8], answer: &mut [u8]) -> Nearest
     ensures { λ r. ⌜ nearestAnswer r ≡ told (closestOf (now (job .entry)) (length (now (answer .entry)))) ⌝ }
-    ensures { λ r. ⌜ sizeIn r ≤ 15 ⌝ }
+    ensures { λ r. ⌜ nearestSize r ≤ 15 ⌝ }
     ensures { λ _. ⌜ now (answer .exit)
         ≡ written (circuitIn (closestOf (now (job .entry)) (length (now (answer .entry))))) (now (answer .entry)) ⌝ }
 {

@@ -52,13 +52,13 @@ pub fn cut_off(jobs: &[u8]) -> Cut
 }
 
 // Where a record of a batch begins and ends.
-pub struct Place {
+pub struct Span {
     pub start: usize,
     pub end: usize,
 }
 
 // Where record `i` stands, counted from 0.
-pub fn record_at(jobs: &[u8], i: usize) -> Place
+pub fn record_at(jobs: &[u8], i: usize) -> Span
     requires { ⌜ i < countOf (now jobs) ⌝ }
     ensures { λ r. ⌜ take (r .end - r .start) (drop (r .start) (now (jobs .entry))) ≡ jobAt (now (jobs .entry)) i ⌝ }
     ensures { λ r. ⌜ r .start ≤ r .end ⌝ }
@@ -71,5 +71,5 @@ pub fn record_at(jobs: &[u8], i: usize) -> Place
         k += 1;
     }
     let end = start + record_size(&jobs[start..]);
-    Place { start, end }
+    Span { start, end }
 }

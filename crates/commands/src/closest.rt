@@ -3,14 +3,16 @@ use approximate::Nearest;
 use printed::misses;
 use reports::refusal;
 ghost use mathlib.Core.Path.{_≡_};
-ghost use Prim.Native.Nat.{_≤_};
+ghost use Prim.Native.Nat.{suc, _≤_};
 ghost use lib.ListN.{length};
 ghost use Rattle.text.specs.pieces.Text.{inFront};
-ghost use Rattle.printed.specs.misses.Closeness.{closestText, TellingJob};
+ghost use Rattle.record.specs.JobRules.{longestJob};
+ghost use Rattle.printed.specs.misses.Closeness.{closestText, TellingClosest};
 
 // How many bytes of a job decide what is printed: one more than the longest job has.
 pub fn job_room() -> usize
-    ensures { λ r. ⌜ TellingJob r ⌝ }
+    ensures { λ r. ⌜ r ≡ suc longestJob ⌝ }
+    ensures { λ r. ⌜ TellingClosest r ⌝ }
     ensures { λ r. ⌜ r ≤ 4096 ⌝ }
 {
     31

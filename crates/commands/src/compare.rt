@@ -5,8 +5,9 @@ use printed::differences;
 use reports::refusal;
 use sensitivity::alike;
 ghost use mathlib.Core.Path.{_≡_};
-ghost use Prim.Native.Nat.{_≤_};
+ghost use Prim.Native.Nat.{suc, _≤_};
 ghost use lib.ListN.{length};
+ghost use Rattle.record.specs.JobRules.{longestJob};
 ghost use Rattle.outcomes.specs.Outcomes.{searchOf};
 ghost use Rattle.text.specs.pieces.Text.{inFront};
 ghost use Rattle.printed.specs.differences.Compare.{compareText, TellingPair};
@@ -14,6 +15,7 @@ ghost use Rattle.printed.specs.differences.Inner.{afterOld, bothText};
 
 // How many bytes of either job decide what is printed: one more than the longest job has.
 pub fn job_room() -> usize
+    ensures { λ r. ⌜ r ≡ suc longestJob ⌝ }
     ensures { λ r. ⌜ TellingPair r ⌝ }
     ensures { λ r. ⌜ r ≤ 4096 ⌝ }
 {

@@ -5,6 +5,8 @@ ghost use mathlib.Core.Path.{_≡_};
 ghost use Prim.Native.Nat.{_+_, _≤_, _<_, min};
 ghost use lib.ListN.{length};
 ghost use Rattle.io.specs.Counts.{Counts};
+ghost use Rattle.logic.specs.Lists.{allOf};
+ghost use Rattle.console.specs.data_lines.Words.{isDigit, isByte, isDash, isBytes, isWord};
 
 // Reads a file into a lent buffer, and answers how many bytes it has. Complains of a file that cannot be read, which counts as an empty
 // one, and of one that fills the buffer, since there may be more of it.
@@ -35,20 +37,37 @@ pub fn say_other(line: &[u8], number: usize) {
 }
 
 // Whether a word is one byte: two upper-case digits.
-pub fn is_byte(word: &[u8]) -> bool {
+pub fn is_byte(word: &[u8]) -> bool
+    ensures { λ r. ⌜ r ≡ isByte (now (word .entry)) ⌝ }
+{
     logic::both(word.len() == 2, is_digits(word))
 }
 
-// Whether a word is bytes: `-` for none, or else pairs of upper-case digits, at most so many digits.
-pub fn is_word(word: &[u8], most: usize) -> bool {
-    if check::same(word, b"-") {
-        return true;
-    }
+// Whether a word is a dash, which stands for no bytes.
+fn is_dash(word: &[u8]) -> bool
+    ensures { λ r. ⌜ r ≡ isDash (now (word .entry)) ⌝ }
+{
+    logic::both(word.len() == 1, logic::at(word, 0) == b'-')
+}
+
+// Whether a word is pairs of upper-case digits, at most so many digits.
+fn is_bytes(word: &[u8], most: usize) -> bool
+    ensures { λ r. ⌜ r ≡ isBytes (now (word .entry)) most ⌝ }
+{
     let paired = logic::both(word.len() % 2 == 0, word.len() <= most);
     logic::both(logic::both(word.len() != 0, paired), is_digits(word))
 }
 
-fn is_digits(word: &[u8]) -> bool {
+// Whether a word is bytes: `-` for none, or else pairs of upper-case digits, at most so many digits.
+pub fn is_word(word: &[u8], most: usize) -> bool
+    ensures { λ r. ⌜ r ≡ isWord (now (word .entry)) most ⌝ }
+{
+    logic::either(is_dash(word), is_bytes(word, most))
+}
+
+fn is_digits(word: &[u8]) -> bool
+    ensures { λ r. ⌜ r ≡ allOf isDigit (now (word .entry)) ⌝ }
+{
     let mut i = 0;
     while i < word.len() {
         if !is_digit(word[i]) {
@@ -59,12 +78,11 @@ fn is_digits(word: &[u8]) -> bool {
     true
 }
 
-fn is_digit(b: u8) -> bool {
-    match b {
-        b'0'..=b'9' => true,
-        b'A'..=b'F' => true,
-        _ => false,
-    }
+fn is_digit(b: u8) -> bool
+    ensures { λ r. ⌜ r ≡ isDigit b ⌝ }
+{
+    let decimal = logic::both(b'0' <= b, b <= b'9');
+    logic::either(decimal, logic::both(b'A' <= b, b <= b'F'))
 }
 
 // Says a byte as two digits.

@@ -16,6 +16,6 @@ added (Cnot a) v = bitOf a v
 added (Toffoli a b) v = bitOf a v * bitOf b v
 added (Cccnot a b c) v = bitOf a v * bitOf b v * bitOf c v
 
--- the bit of wire w after gate b on the value v: the formula for the target; "every other wire keeps its bit"
+-- the bit of wire w after gate b on the value v: the formula for the target; every other wire keeps its bit
 abbrev pub published : ℕ → ℕ → ℕ → ℕ
 published b v w = pick (eqb w (targetOf b)) (bitXor (bitOf w v) (added (gateOf b .kind) v)) (bitOf w v)

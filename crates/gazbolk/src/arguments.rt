@@ -2,12 +2,16 @@
 // program's usage.
 use console::output;
 use console::output::say;
-ghost use Prim.Native.Nat.{_<_, _≤_};
+ghost use mathlib.Core.Path.{_≡_};
+ghost use mathlib.Core.Bool.{true};
+ghost use mathlib.Core.Logic.{_↔_};
+ghost use Prim.Native.Nat.{_<_, _≤_, min};
 ghost use lib.ListN.{length};
+ghost use Rattle.gazbolk.specs.arguments.Words.{Asked};
 
 // The number of words, at most a million: nobody writes more, and no sum of places can then overflow.
 pub fn few(count: usize) -> usize
-    ensures { λ r. ⌜ r ≤ 1000000 ⌝ }
+    ensures { λ r. ⌜ r ≡ min count 1000000 ⌝ }
 {
     if count < 1_000_000 { count } else { 1_000_000 }
 }
@@ -34,8 +38,11 @@ fn is_then(i: usize) -> bool {
 }
 
 // Whether a command has its name and as many words as it takes.
-pub fn is_asked(word: &[u8], command: &[u8], words: usize, least: usize, most: usize) -> bool {
-    least <= words && words <= most && check::same(word, command)
+pub fn is_asked(word: &[u8], command: &[u8], words: usize, least: usize, most: usize) -> bool
+    ensures { λ r. ⌜ ((r ≡ true) ↔ Asked (now (word .entry)) (now (command .entry)) words least most) ⌝ }
+{
+    let enough = logic::both(least <= words, words <= most);
+    logic::both(enough, check::same(word, command))
 }
 
 // Prints how the program is called.
@@ -99,6 +106,7 @@ fn explain_rewrite() {
     say(b"    NUMBER` and what it means.\n");
 }
 
+// Whether three files are all open.
 pub fn all_open(job: i32, circuit: i32, library: i32) -> bool {
     job >= 0 && circuit >= 0 && library >= 0
 }

@@ -19,13 +19,12 @@ use Rattle.table.specs.layouts.Layouts.{Width}
 use Rattle.table.specs.Rows.{careOf, valueOf, rowOk, rowOf}
 use Rattle.record.specs.job_fields.Jobs.{longer, dataWires, ancillas, freeLayout, gateLimit, costLimit, depthLimit, weightsAt, prices, durations, rows}
 use Rattle.record.specs.JobRules.{jobLengthOk, sizeOk, headOk, limitOk, durationsOk, rowsOk, jobCode}
-use Rattle.record.specs.Inner.{jobRest}
 use Rattle.record.proofs.Kept.{sound-job}
 use Rattle.parity.specs.Parity.{values, fullRow, full, distinct, permutes}
 use Rattle.parity.proofs.odd_tables.Permutation.{permutation}
 use Rattle.outcomes.specs.Outcomes.{searchOf}
 use Rattle.library.specs.entries.Library.{libraryCode}
-use Rattle.library.specs.judge.Calls.{searchWith}
+use Rattle.library.specs.calls.Calls.{searchWith}
 use Rattle.parity.proofs.Distinct.{row-of-at}
 use Rattle.inverse.specs.Mirror.{Alike}
 use Rattle.inverse.specs.Inverse.{Permutation, Inverse, valueAt, inverseRow, inverseRows, inverseJob}
@@ -227,9 +226,9 @@ module _ (job : List ℕ) (perm : Permutation job) where
 
   -- it breaks no rule
   pub inverse-sound : jobCode (inverseJob job) ≡ 0
-  unfolding jobCode jobRest jobLengthOk sizeOk headOk limitOk durationsOk
+  unfolding jobCode jobLengthOk sizeOk headOk limitOk durationsOk
   inverse-sound =
-      let k₁ = rule-kept (jobLengthOk job) 1 (jobRest job) (lit< tt) (perm .sound) in
+      let k₁ = rule-kept (jobLengthOk job) 1 _ (lit< tt) (perm .sound) in
       let k₂ = rule-kept (sizeOk job) 2 _ (lit< tt) (k₁ .1) in
       let k₃ = rule-kept (headOk job) 3 _ (lit< tt) (k₂ .1) in
       let k₄ = rule-kept (limitOk job) 4 _ (lit< tt) (k₃ .1) in

@@ -21,9 +21,9 @@ use Rattle.record.specs.pair_codes.Codes.{searchCode}
 use Rattle.outcomes.specs.Inner.{Lawfuls}
 use Rattle.outcomes.proofs.Facts as Search
 use Rattle.library.specs.entries.Library.{entriesOf, entriesOk, librarySizeOk, libraryCode}
-use Rattle.library.specs.judge.Calls.{jobWithCode, setIn, searchWithCode, searchWith}
-use Rattle.library.proofs.judge.Sound.{sound-library, gates-lawful, searchable}
-use Rattle.library.proofs.judge.Searched.{answers-with}
+use Rattle.library.specs.calls.Calls.{jobWithCode, setIn, searchWithCode, searchWith}
+use Rattle.library.proofs.calls.Sound.{sound-library, gates-lawful, searchable}
+use Rattle.library.proofs.calls.Searched.{answers-with}
 use Rattle.inverse.specs.Mirror.{Three, three, firstThree, answeredThree, Alike}
 use Rattle.inverse.specs.Inverse.{Inverse}
 use Rattle.inverse.proofs.Problems.{first-same}

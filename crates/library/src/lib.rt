@@ -3,20 +3,20 @@
 // `verify` return, with three more refusal codes: 29 and 30 for the library, 31 for a gate that it does not list.
 pub mod entries; // a library's bytes as entries, and their checks
 pub mod entry_measures; // the cost and the ready times of a gate list by a library
-pub mod judge; // `verify_with`, and what `search_with` is made of
+pub mod calls; // `verify_with`, and what `search_with` is made of
 
-pub use crate::judge::verify_with;
+pub use crate::calls::verify_with;
 use outcomes::Searched;
 use problem::order::Best;
 ghost use mathlib.Core.Path.{_≡_};
 ghost use Prim.Native.Nat.{_≤_, _/_};
 ghost use lib.ListN.{length};
 ghost use Rattle.record.specs.JobRules.{jobCode};
-ghost use Rattle.problem.specs.order.Inner.{view};
+ghost use Rattle.problem.specs.order.View.{view};
 ghost use Rattle.problem.specs.Problems.{firstGood};
 ghost use Rattle.outcomes.specs.Outcomes.{reported, written, searchedAnswer, sizeIn};
 ghost use Rattle.library.specs.entries.Library.{libraryCode};
-ghost use Rattle.library.specs.judge.Calls.{problemWith, searchWith};
+ghost use Rattle.library.specs.calls.Calls.{problemWith, searchWith};
 
 // The first good choice of a well-formed job among the gates of a sound library.
 fn first_good(job: &[u8], library: &[u8]) -> Best
@@ -25,9 +25,9 @@ fn first_good(job: &[u8], library: &[u8]) -> Best
     ensures { λ r. ⌜ view r ≡ firstGood (problemWith (now (job .entry)) (now (library .entry))) ⌝ }
     ensures { λ r. ⌜ r .len ≤ 12 ⌝ }
 {
-    let gates = judge::column(library, 0);
-    let prices = judge::column(library, 1);
-    let durations = judge::column(library, 2);
+    let gates = calls::column(library, 0);
+    let prices = calls::column(library, 1);
+    let durations = calls::column(library, 2);
     search::solve_among(job, library.len() / 3, gates, prices, durations)
 }
 
@@ -39,12 +39,12 @@ pub fn search_with(job: &[u8], library: &[u8], answer: &mut [u8]) -> Searched
     ensures { λ _. ⌜ now (answer .exit)
         ≡ written (searchWith (now (job .entry)) (now (library .entry)) (length (now (answer .entry)))) (now (answer .entry)) ⌝ }
 {
-    let code = judge::search_with_code(job, library, answer.len());
+    let code = calls::search_with_code(job, library, answer.len());
     if code != 0 {
         return Searched::Refused(code);
     }
     let best = first_good(job, library);
     let path = best.path;
-    let measures = judge::measures_of(library, path, best.len);
+    let measures = calls::measures_of(library, path, best.len);
     outcomes::tell(job, best, measures, answer)
 }

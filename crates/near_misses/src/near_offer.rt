@@ -18,7 +18,7 @@ ghost use lib.ListN.{length};
 ghost use Rattle.gate.specs.Gates.{targetOf};
 ghost use Rattle.table.specs.layouts.Layouts.{Width};
 ghost use Rattle.problem.specs.order.Choices.{attempt, improve};
-ghost use Rattle.problem.specs.order.Inner.{view};
+ghost use Rattle.problem.specs.order.View.{view};
 ghost use Rattle.problem.specs.Problems.{Problem, choiceOf, here, within};
 ghost use Rattle.problem.specs.pruned.Pruned.{triedBy};
 ghost use Rattle.outputs.specs.products.Products.{tableOf};

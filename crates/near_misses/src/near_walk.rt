@@ -10,7 +10,7 @@ use walk::node::Node;
 use walk::node::Task;
 ghost use mathlib.Core.Path.{_≡_};
 ghost use Prim.Native.Nat.{_+_, _≤_, _<_};
-ghost use Rattle.problem.specs.order.Inner.{view};
+ghost use Rattle.problem.specs.order.View.{view};
 ghost use Rattle.problem.specs.Problems.{Problem, firstGood};
 ghost use Rattle.problem.specs.pruned.Pruned.{triedUnder};
 ghost use Rattle.walk.specs.node.States.{listOf, Slices, Small, Fair, Posed, Limited, At, needless};

@@ -19,7 +19,7 @@ use Rattle.circuit.specs.measures.Measures.{measuresOf}
 use Rattle.parity.specs.Parity.{isOdd, tableParity}
 use Rattle.parity.proofs.Odd.{odd-is}
 use Rattle.problem.specs.declared.order.Best.{Best}
-use Rattle.problem.specs.order.Inner.{choice, view}
+use Rattle.problem.specs.order.View.{choice, view}
 use Rattle.problem.specs.Problems.{firstGood}
 use Rattle.outcomes.specs.Outcomes.{GateSet, problemOver, recordOf, Found, outcomeOf, searchOver, reported, written}
 use Rattle.outcomes.specs.preflight.Odd.{alwaysNone}

@@ -2,7 +2,7 @@
 use mathlib.Core.Path.{_≡_, refl, sym, ap, _∙_}
 use mathlib.Core.Bool.{true, false}
 use mathlib.Core.Logic.{_⊎_, inl, inr, _↔_}
-use mathlib.Core.List.{List}
+use mathlib.Core.List.{List, List·Memᴰ}
 use mathlib.Core.Option.{Option, none, some}
 use Prim.Native.Nat.{ℕ, _≤_, _<_}
 use native.Mathlib.Decide.{ℕ-discrete}
@@ -22,6 +22,7 @@ use Rattle.table.proofs.layouts.Layouts.{layout-is, layout-has, allowed-ok}
 use Rattle.record.specs.JobRules.{jobCode}
 use Rattle.record.specs.job_fields.Jobs.{longer, mostControls, dataWires, ancillas, wires, freeLayout, gateLimit}
 use Rattle.record.proofs.Kept.{sound-job, wires-within}
+use Rattle.record.proofs.Never.{search-code-never, one-number, no-number, answer-never}
 use Rattle.record.proofs.job_fields.Widths.{two-or-three}
 use Rattle.circuit.specs.measures.Measures.{measuresOf}
 use Rattle.parity.specs.Parity.{odd, tableParity}
@@ -100,6 +101,17 @@ module _ (G : GateSet) (job : List ℕ) (code : ℕ) where
         by-first none e = inl (past ∙ ap (outcomeOf G job) e)
         by-first (some c) e = inr (foundOf G job c, past ∙ ap (outcomeOf G job) e)
 
+module _ (G : GateSet) (job : List ℕ) where
+  -- a search that has passed its checks refuses with 14 alone
+  pub outcome-never : (n : ℕ) → (14 ≡ n → ⊥) → (o : Option Choice) → outcomeOf G job o ≡ refused n → ⊥
+  outcome-never n other none h = other (one-number n 14 h)
+  outcome-never n other (some c) h = no-number n (foundOf G job c) h
+
+  pub over-never : (code n : ℕ) → (code ≡ n → ⊥) → (14 ≡ n → ⊥) → searchOver G job code ≡ refused n → ⊥
+  unfolding searchOver
+  over-never code n c other =
+      answer-never n code (outcomeOf G job (firstGood (problemOver G job))) c (outcome-never n other (firstGood (problemOver G job)))
+
 -- whatever the job and the buffer: a circuit is returned only for a well-formed job and at least 15 bytes
 pub found-sound : (job : List ℕ) (room : ℕ) (f : Found) → searchOf job room ≡ answered f → (jobCode job ≡ 0) × (15 ≤ room)
 unfolding searchOf
@@ -146,7 +158,17 @@ module _ (job : List ℕ) (sound : jobCode job ≡ 0) where
     unfolding searchOf
     answers = answers-over (ownSet job) job (searchCode job room) kept-code
 
--- 3. Four data wires, no ancilla, an odd table: what solves the job has a three-control gate, so nothing solves a shorter one, at any limit.
+-- so whatever the job and the buffer: what is told of a circuit that is returned
+pub returned : (job : List ℕ) (room : ℕ) (f : Found) → searchOf job room ≡ answered f → Told (ownSet job) job (searchCode job room) f
+returned job room f h = let s = found-sound job room f h in found-is job (s .0) room (s .1) f h
+
+-- 11 is never said
+pub search-never : (job : List ℕ) (room : ℕ) → searchOf job room ≡ refused 11 → ⊥
+unfolding searchOf
+search-never job room = over-never (ownSet job) job (searchCode job room) 11 (search-code-never job room) (λ e. omega arith)
+
+-- 3. Four data wires, no ancilla, an odd table: what solves the job has a three-control gate, so nothing does with gates of at most two
+-- controls, as those of a shorter job are, at any limit.
 module _ (G : GateSet) (job : List ℕ) (sound : jobCode job ≡ 0) (lawfuls : Lawfuls job (G .gates)) where
   module _ (four : dataWires job ≡ 4) (bare : ancillas job ≡ 0) (is-odd : tableParity job ≡ odd) where
     four-wires : wires job ≡ 4
@@ -165,17 +187,20 @@ module _ (G : GateSet) (job : List ℕ) (sound : jobCode job ≡ 0) (lawfuls : L
         (all-widen (mostControls job) 4 3 4 (two-or-three (longer job) .1) (lit≤ tt) l (kept l p s)) (ok .0) (rw four at (ok .1))
         (rw four at (s .realizing))
 
-    module _ (shorter : longer job ≡ false) where
+    module _ (few : (g : ℕ) → List·Memᴰ g (G .gates) → lawful 2 4 g ≡ true) where
       unsolved : (l : List ℕ) (p : ℕ) → Solves (problemOver G job) l p → ⊥
-      unsolved l p s =
-          let few = rw shorter at (kept l p s) in
-          omega (arith, odd-solved l p s, none-of-three l few)
+      unfolding problemOver
+      unsolved l p s = omega (arith, odd-solved l p s, none-of-three l (among-all (lawful 2 4) (G .gates) l few (s .admitted .gates-listed)))
 
       pub odd-over : (code : ℕ) → code ≡ 0 → searchOver G job code ≡ refused 14
       odd-over code clear = none-over G job code clear .1 unsolved
 
+    module _ (shorter : longer job ≡ false) where
+      pub shorter-few : (g : ℕ) → List·Memᴰ g (G .gates) → lawful 2 4 g ≡ true
+      shorter-few g m = rw (shorter, four-wires) at (lawfuls g m)
+
       pub odd-first : firstGood (problemOver G job) ≡ none
-      odd-first = Demand.none-is (problemOver G job) .1 unsolved
+      odd-first = Demand.none-is (problemOver G job) .1 (unsolved shorter-few)
 
 -- the job's own gates are those lawful for it
 pub own-kept : (job : List ℕ) → Lawfuls job (ownSet job .gates)
@@ -185,4 +210,5 @@ pub odd-none : (job : List ℕ) → jobCode job ≡ 0 → dataWires job ≡ 4 �
     → (room : ℕ) → 15 ≤ room → searchOf job room ≡ refused 14
 unfolding searchOf
 odd-none job sound four bare is-odd shorter room wide =
-    odd-over (ownSet job) job sound (own-kept job) four bare is-odd shorter (searchCode job room) (kept-code job sound room wide)
+    odd-over (ownSet job) job sound (own-kept job) four bare is-odd
+    (shorter-few (ownSet job) job sound (own-kept job) four bare is-odd shorter) (searchCode job room) (kept-code job sound room wide)

@@ -20,7 +20,7 @@ use Rattle.table.specs.layouts.Layouts.{layoutOk, allowed}
 use Rattle.table.specs.Rows.{realizes}
 use Rattle.table.proofs.layouts.Layouts.{layout-is, layout-has, allowed-ok}
 use Rattle.record.specs.JobRules.{jobCode}
-use Rattle.record.specs.job_fields.Jobs.{longer, mostControls, dataWires, ancillas, wires, freeLayout, priceOf, durationOf, rows}
+use Rattle.record.specs.job_fields.Jobs.{longer, mostControls, dataWires, ancillas, wires, freeLayout, priceOf, durationOf, rows, Bytes}
 use Rattle.record.specs.circuit_rules.CircuitRules.{circuitCode}
 use Rattle.record.specs.circuit_fields.Circuits.{marked, layoutOf, gates, circuitBytes}
 use Rattle.record.proofs.circuit_rules.Written as Written
@@ -38,7 +38,7 @@ use Rattle.parity.specs.odd_tables.Ends.{threeControlGates}
 use Rattle.problem.specs.Demand.{Solves}
 use Rattle.outcomes.specs.Outcomes.{GateSet, ownSet, problemOver, recordOf, Found, searchOver, searchOf}
 use Rattle.outcomes.specs.Inner.{Lawfuls}
-use Rattle.outcomes.proofs.Facts.{found-over, none-over, found-code, kept-code, own-kept, found-sound, found-is, odd-solved}
+use Rattle.outcomes.proofs.Facts.{found-over, none-over, found-code, kept-code, own-kept, found-sound, returned, odd-solved}
 
 -- a mark goes with a longer job
 implies-same : (t : Bool) → implies t t ≡ true
@@ -122,7 +122,7 @@ module _ (G : GateSet) (job : List ℕ) (sound : jobCode job ≡ 0) (kept : Lawf
     solution-among = rw (same-gates job sound p l) (s .admitted .gates-listed)
 
     -- and its bytes are bytes
-    pub solution-bytes : (i : ℕ) → getD (recordOf job p l) i 0 < 256
+    pub solution-bytes : Bytes (recordOf job p l)
     unfolding recordOf circuitBytes
     solution-bytes zero =
         let m = sound-job job sound .spare in
@@ -157,7 +157,7 @@ module _ (G : GateSet) (job : List ℕ) (sound : jobCode job ≡ 0) (kept : Lawf
   module _ (code : ℕ) (clear : code ≡ 0) where
     -- "None" exactly when no record of any bytes that is made of these gates passes.
     pub none-passes-over : (searchOver G job code ≡ refused 14)
-        ↔ ((c : List ℕ) → ((i : ℕ) → getD c i 0 < 256) → Among (G .gates) (gates c) → PassesAt (G .price) (G .duration) job c → ⊥)
+        ↔ ((c : List ℕ) → Bytes c → Among (G .gates) (gates c) → PassesAt (G .price) (G .duration) job c → ⊥)
     unfolding layoutOf
     none-passes-over = (
       (λ h c small a s. none-over G job code clear .0 h (gates c) (layoutOf c) (passes-solution c (small 1) a s)),
@@ -193,7 +193,7 @@ passes-among price duration job c s =
 
 -- "None" exactly when no record of any bytes passes.
 pub none-passes : (job : List ℕ) → jobCode job ≡ 0 → (room : ℕ) → 15 ≤ room
-    → (searchOf job room ≡ refused 14) ↔ ((c : List ℕ) → ((i : ℕ) → getD c i 0 < 256) → Passes job c → ⊥)
+    → (searchOf job room ≡ refused 14) ↔ ((c : List ℕ) → Bytes c → Passes job c → ⊥)
 unfolding searchOf
 none-passes job sound room wide =
     let n = none-passes-over (ownSet job) job sound (own-kept job) (searchCode job room) (kept-code job sound room wide) in (
@@ -235,7 +235,7 @@ pub odd-found : (job : List ℕ) (room : ℕ) (f : Found) → searchOf job room 
     → 1 ≤ threeControlGates (gates (f .bytes))
 odd-found job room f h four bare is-odd =
     let k = found-sound job room f h in
-    let w = found-is job (k .0) room (k .1) f h in
+    let w = returned job room f h in
     let l = w .0 in
     let p = w .1 .0 in
     subst (λ (gs : List ℕ). 1 ≤ threeControlGates gs) (sym (ap gates (w .1 .1 .1 .0) ∙ same-gates job (k .0) p l))

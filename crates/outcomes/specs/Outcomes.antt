@@ -1,14 +1,15 @@
 -- What a search answers: a job as a problem, the problem's first good choice as a circuit record, and what the call returns and writes.
-use mathlib.Core.List.{List, _++_}
+use mathlib.Core.List.{List}
 use mathlib.Core.Option.{Option, none, some}
 use Prim.Native.Nat.{ℕ}
 use lib.Dec.{eqb}
-use lib.ListN.{length, drop}
+use lib.ListN.{length}
 use Rattle.logic.specs.Rules.{pick}
 use Rattle.logic.specs.Answers.{Answer, refused, answered}
 use Rattle.gate.specs.Gates.{gatesFor}
 use Rattle.table.specs.layouts.Layouts.{layoutsFor}
 use Rattle.table.specs.Rows.{realizes}
+use Rattle.text.specs.pieces.Text.{inFront}
 use Rattle.record.specs.job_fields.Jobs.{longer, mostControls, dataWires, ancillas, wires, freeLayout, gateLimit, costLimit, depthLimit}
 use Rattle.record.specs.job_fields.Jobs.{priceOf, durationOf, rows}
 use Rattle.record.specs.circuit_fields.Circuits.{circuitBytes}
@@ -87,7 +88,7 @@ reported (answered f) = answered (record { size = length (f .bytes); measures = 
 -- "and the answer buffer is untouched. A found circuit is written from byte 0; later bytes are untouched"
 abbrev pub written : Answer Found → List ℕ → List ℕ
 written (refused code) answer = answer
-written (answered f) answer = f .bytes ++ drop (length (f .bytes)) answer
+written (answered f) answer = inFront (f .bytes) answer
 
 -- the code's enum as an answer: document 01's refusal code, or the length and the measures
 abbrev pub searchedAnswer : Searched → Answer Reported

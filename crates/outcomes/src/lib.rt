@@ -16,7 +16,7 @@ ghost use lib.ListN.{length, take};
 ghost use Rattle.record.specs.JobRules.{jobCode};
 ghost use Rattle.record.specs.job_fields.Jobs.{priceOf, durationOf};
 ghost use Rattle.circuit.specs.measures.Measures.{measuresOf};
-ghost use Rattle.problem.specs.order.Inner.{view};
+ghost use Rattle.problem.specs.order.View.{view};
 ghost use Rattle.outcomes.specs.Outcomes.{ownSet, reported, written, searchedAnswer, sizeIn};
 ghost use Rattle.outcomes.specs.Inner.{Lawfuls, Tabled, toldOf};
 

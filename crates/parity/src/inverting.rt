@@ -28,8 +28,8 @@ fn smaller(x: u8, rows: &[u8]) -> usize
     sum
 }
 
-// The number of inversions modulo 2.
-pub fn inversions(rows: &[u8]) -> usize
+// The parity of the number of inversions: that number modulo 2.
+pub fn inversion_parity(rows: &[u8]) -> usize
     ensures { λ r. ⌜ r ≡ inversions (map valueOf (now (rows .entry))) % 2 ⌝ }
 {
     let mut odd = 0;

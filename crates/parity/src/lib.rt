@@ -9,7 +9,7 @@ pub mod permuting;
 use record::job_fields;
 ghost use mathlib.Core.Path.{_≡_};
 ghost use Rattle.logic.specs.Answers.{answered};
-ghost use Rattle.parity.specs.Parity.{isOdd, tableParity, parityOf, parityAnswer, permutes, inversions};
+ghost use Rattle.parity.specs.Parity.{isOdd, tableParity, parityOf, parityAnswer, permutes};
 
 // What `parity` answers: the code of the first rule that the job breaks, or the parity of its table.
 pub enum TableParity {
@@ -25,7 +25,7 @@ pub fn odd_table(job: &[u8]) -> bool
 {
     logic::both(
         permuting::permutes(job),
-        inverting::inversions(job_fields::table(job)) == 1,
+        inverting::inversion_parity(job_fields::table(job)) == 1,
     )
 }
 
@@ -36,7 +36,7 @@ fn table_parity(job: &[u8]) -> TableParity
     if !permuting::permutes(job) {
         return TableParity::Neither;
     }
-    if inverting::inversions(job_fields::table(job)) == 1 {
+    if inverting::inversion_parity(job_fields::table(job)) == 1 {
         TableParity::Odd
     } else {
         TableParity::Even

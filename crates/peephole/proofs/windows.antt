@@ -3,6 +3,7 @@ pub mod Repeats
 pub mod Asked
 pub mod Answers
 pub mod Steps
+pub mod Improving
 pub mod Promises
 pub mod Scans
 pub mod Buffers

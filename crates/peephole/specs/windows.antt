@@ -1,3 +1,4 @@
 pub mod Windows
 pub mod Listings
+pub mod Demand
 pub mod Inner

@@ -9,9 +9,8 @@ ghost use Prim.Native.Nat.{_+_, _-_, _*_, _%_, _^_, _<_, _≤_};
 ghost use lib.ListN.{length, take, drop, replicate};
 ghost use Rattle.circuit.specs.run.Run.{forwards};
 ghost use Rattle.table.specs.layouts.Layouts.{Width};
-ghost use Rattle.peephole.specs.windows.Windows.{weights, windowJob};
+ghost use Rattle.peephole.specs.windows.Windows.{weights, windowJob, spliced};
 ghost use Rattle.peephole.specs.windows.Listings.{sizesOk, rewriteCode};
-ghost use Rattle.peephole.specs.windows.Inner.{spliced};
 ghost use Rattle.peephole.specs.listing.Inner.{jobHead};
 
 // The prices by kind of gate. No gate here has three controls, so the fourth price is never used.

@@ -1,9 +1,12 @@
 // How many bytes of each file decide what `gazbolk search` and `gazbolk verify` print.
-ghost use Prim.Native.Nat.{_≤_};
+ghost use mathlib.Core.Path.{_≡_};
+ghost use Prim.Native.Nat.{suc, _≤_};
+ghost use Rattle.record.specs.JobRules.{longestJob};
 ghost use Rattle.printed.specs.files.Files.{TellingJob, TellingCircuit, TellingLibrary};
 
 // How many bytes of a job decide it: one more than the longest job has.
 pub fn job_room() -> usize
+    ensures { λ r. ⌜ r ≡ suc longestJob ⌝ }
     ensures { λ r. ⌜ TellingJob r ⌝ }
     ensures { λ r. ⌜ r ≤ 4096 ⌝ }
 {

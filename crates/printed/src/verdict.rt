@@ -1,5 +1,5 @@
 // The code of `gazbolk verify`: a job, a circuit, which is a record or RevLib text, and perhaps a library, to the verdict that is printed.
-use library::judge;
+use library::calls;
 use reports::pass;
 use revlib_reader::Parsed;
 use revlib_reader::keywords;
@@ -10,7 +10,7 @@ ghost use lib.ListN.{length};
 ghost use Rattle.verify.specs.Calls.{measuredAnswer};
 ghost use Rattle.text.specs.pieces.Text.{inFront};
 ghost use Rattle.revlib.specs.Reading.{readOf};
-ghost use Rattle.printed.specs.files.Files.{isText, given, verdict, judged, verifyFile, verifyText};
+ghost use Rattle.printed.specs.files.Files.{isText, given, verdict, verdictOn, verifyFile, verifyText};
 
 // Whether a file is RevLib text.
 fn is_text(file: &[u8]) -> bool
@@ -24,7 +24,7 @@ fn verdict(job: &[u8], named: bool, library: &[u8], circuit: &[u8]) -> Measured
     ensures { λ r. ⌜ measuredAnswer r ≡ verdict (now (job .entry)) (given named (now (library .entry))) (now (circuit .entry)) ⌝ }
 {
     if named {
-        judge::verify_with(job, library, circuit)
+        calls::verify_with(job, library, circuit)
     } else {
         verify::verify(job, circuit)
     }
@@ -32,7 +32,8 @@ fn verdict(job: &[u8], named: bool, library: &[u8], circuit: &[u8]) -> Measured
 
 // Verifies the circuit that a RevLib text describes for a job.
 fn verify_real(job: &[u8], named: bool, library: &[u8], text: &[u8]) -> Measured
-    ensures { λ r. ⌜ measuredAnswer r ≡ judged (now (job .entry)) (given named (now (library .entry))) (readOf (now (text .entry)) 15) ⌝ }
+    ensures { λ r. ⌜ measuredAnswer r
+        ≡ verdictOn (now (job .entry)) (given named (now (library .entry))) (readOf (now (text .entry)) 15) ⌝ }
 {
     let mut answer = [0u8; 15];
     match revlib_reader::read(text, &mut answer) {

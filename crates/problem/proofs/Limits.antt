@@ -10,7 +10,7 @@ use lib.Dec.{leb}
 use Rattle.logic.proofs.Chain.{not-so}
 use Rattle.problem.specs.declared.order.Best.{Best}
 use Rattle.problem.specs.order.Choices.{Choice, under}
-use Rattle.problem.specs.order.Inner.{choice, view}
+use Rattle.problem.specs.order.View.{choice, view}
 use Rattle.problem.proofs.order.First.{found, nothing}
 use Rattle.problem.proofs.order.Order.{by-cost}
 use Rattle.problem.proofs.order.Held.{held-some, by-fewer}

@@ -15,7 +15,7 @@ use Rattle.circuit.specs.Measure.{cost, depth}
 use Rattle.circuit.proofs.Prefix.{gates-front, cost-front, depth-front}
 use Rattle.problem.specs.declared.order.Best.{Best}
 use Rattle.problem.specs.order.Choices.{Choice, attempt, improve, under}
-use Rattle.problem.specs.order.Inner.{view}
+use Rattle.problem.specs.order.View.{view}
 use Rattle.problem.proofs.order.First.{attempt-not, improve-skip, left-later}
 use Rattle.problem.proofs.order.Held.{dearer-left, longer-left}
 use Rattle.problem.specs.Problems.{Problem, choiceOf, here, within}

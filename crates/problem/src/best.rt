@@ -6,7 +6,8 @@ ghost use mathlib.Core.Option.{none};
 ghost use Prim.Native.Nat.{_≤_};
 ghost use lib.ListN.{take};
 ghost use Rattle.problem.specs.order.Choices.{lexLess, before, keep};
-ghost use Rattle.problem.specs.order.Inner.{choice, view, ordered};
+ghost use Rattle.problem.specs.order.Inner.{ordered};
+ghost use Rattle.problem.specs.order.View.{choice, view};
 
 // No incumbent yet.
 pub fn nothing() -> Best

@@ -19,7 +19,6 @@ use Rattle.table.specs.layouts.Layouts.{Width}
 use Rattle.table.specs.Rows.{rowOk}
 use Rattle.record.specs.job_fields.Jobs.{longer, mostControls, dataWires, ancillas, wires, gateLimit, durations, durationOf, rows}
 use Rattle.record.specs.JobRules.{jobLengthOk, sizeOk, headOk, limitOk, durationsOk, rowsOk, jobCode}
-use Rattle.record.specs.Inner.{jobRest}
 use Rattle.record.proofs.job_fields.Widths.{three-to-five}
 
 pub record SoundJob (job : List ℕ) : Type 0 where
@@ -75,9 +74,9 @@ module _ (job : List ℕ) where
       by-count u v w x (suc (suc (suc n))) m h = x (omega arith)
 
   pub sound-job : jobCode job ≡ 0 → SoundJob job
-  unfolding jobCode jobRest headOk limitOk rowsOk weightOf gateOf
+  unfolding jobCode headOk limitOk rowsOk weightOf gateOf
   sound-job h =
-      let k₁ = rule-kept (jobLengthOk job) 1 (jobRest job) (lit< tt) h in
+      let k₁ = rule-kept (jobLengthOk job) 1 _ (lit< tt) h in
       let k₂ = rule-kept (sizeOk job) 2 _ (lit< tt) (k₁ .1) in
       let k₃ = rule-kept (headOk job) 3 _ (lit< tt) (k₂ .1) in
       let k₄ = rule-kept (limitOk job) 4 _ (lit< tt) (k₃ .1) in

@@ -13,6 +13,10 @@ use Rattle.record.specs.job_fields.Jobs.{longer, dataWires, ancillas, ga
 unfoldable pub jobLengthOk : List ℕ → Bool
 jobLengthOk job = either (either (eqb (length job) 20) (eqb (length job) 28)) (longer job)
 
+-- how many bytes the longest of them has
+abbrev pub longestJob : ℕ
+longestJob = 30
+
 -- "Is n = 3 with 20, n = 4 with 28? If not, 2." Or n = 3 with 22, n = 4 with 30
 unfoldable pub sizeOk : List ℕ → Bool
 sizeOk job =

@@ -1,6 +1,5 @@
 pub mod JobRules
 pub mod Answers
-pub mod Inner
 pub mod circuit_fields
 pub mod job_fields
 pub mod circuit_rules

@@ -1,2 +1,1 @@
 pub mod CircuitRules
-pub mod Inner

@@ -1,7 +1,7 @@
 // The fields of a circuit record; `job_fields` has its data wires and ancillas, which stand in byte 0 of either record.
 ghost use mathlib.Core.Path.{_≡_};
 ghost use Prim.Native.Nat.{_<_};
-ghost use Rattle.record.specs.circuit_fields.Circuits.{marked, controlsOf, layoutOf, countOf, gates};
+ghost use Rattle.record.specs.circuit_fields.Circuits.{marked, controlsOf, layoutOf, countByte, gates};
 
 // The gate bytes of a circuit.
 pub fn gate_list(c: &[u8]) -> &[u8]
@@ -33,7 +33,7 @@ pub fn layout_of(c: &[u8]) -> u8
 
 // The gate count that byte 2 states.
 pub fn count_of(c: &[u8]) -> usize
-    ensures { λ r. ⌜ r ≡ countOf (now (c .entry)) ⌝ }
+    ensures { λ r. ⌜ r ≡ countByte (now (c .entry)) ⌝ }
 {
     logic::wide(logic::at(c, 2))
 }

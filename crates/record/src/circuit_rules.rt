@@ -3,12 +3,10 @@ use crate::circuit_fields;
 use crate::job_fields;
 use table::layouts;
 ghost use mathlib.Core.Path.{_≡_};
+ghost use mathlib.Core.Bool.{true};
 ghost use Prim.Native.Nat.{_≤_, _<_};
 ghost use lib.ListN.{length};
-ghost use Rattle.table.specs.layouts.Layouts.{Width};
-ghost use Rattle.record.specs.job_fields.Jobs.{dataWires};
 ghost use Rattle.record.specs.circuit_rules.CircuitRules.{circuitLengthOk, shapeOk, countOk, gatesOk, circuitCode};
-ghost use Rattle.record.specs.circuit_rules.Inner.{circuitRest};
 
 // Rule 7: a circuit has 3 to 15 bytes.
 fn circuit_length_ok(c: &[u8]) -> bool
@@ -45,11 +43,11 @@ fn count_ok(c: &[u8]) -> bool
     circuit_fields::count_of(c) == c.len() - 3
 }
 
-// The code of the first rule broken among rules 9, 10 and 21, or 0.
+// The code of the first rule that a circuit whose length and byte 0 are in order breaks, or 0: rules 9, 10 and 21 are left.
 fn circuit_rest(c: &[u8]) -> u8
-    requires { ⌜ 3 ≤ length (now c) ⌝ }
-    requires { ⌜ Width (dataWires (now c)) ⌝ }
-    ensures { λ r. ⌜ r ≡ circuitRest (now (c .entry)) ⌝ }
+    requires { ⌜ circuitLengthOk (now c) ≡ true ⌝ }
+    requires { ⌜ shapeOk (now c) ≡ true ⌝ }
+    ensures { λ r. ⌜ r ≡ circuitCode (now (c .entry)) ⌝ }
 {
     let rest = logic::rule(gates_ok(c), 21, 0);
     logic::rule(

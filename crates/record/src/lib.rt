@@ -15,11 +15,11 @@ pub mod writing;
 
 use crate::circuit_rules::circuit_code;
 ghost use mathlib.Core.Path.{_≡_};
+ghost use mathlib.Core.Bool.{true};
 ghost use Prim.Native.Nat.{_<_};
 ghost use Rattle.record.specs.JobRules.{jobLengthOk, sizeOk, headOk, limitOk, durationsOk, rowsOk, jobCode};
 ghost use Rattle.record.specs.circuit_rules.CircuitRules.{circuitCode};
 ghost use Rattle.record.specs.Answers.{checkedAnswer, checkOf};
-ghost use Rattle.record.specs.Inner.{jobRest};
 
 // What a check answers: the code of the first rule broken, or that there is none.
 pub enum Checked {
@@ -91,9 +91,10 @@ fn answer(code: u8) -> Checked
     }
 }
 
-// The code of the first rule broken among rules 2 to 6, or 0.
+// The code of the first rule that a job of a right length breaks, or 0: rules 2 to 6 are left.
 fn job_rest(job: &[u8]) -> u8
-    ensures { λ r. ⌜ r ≡ jobRest (now (job .entry)) ⌝ }
+    requires { ⌜ jobLengthOk (now job) ≡ true ⌝ }
+    ensures { λ r. ⌜ r ≡ jobCode (now (job .entry)) ⌝ }
 {
     let rest = logic::rule(durations_ok(job), 5, logic::rule(rows_ok(job), 6, 0));
     let head = head_ok(job);

@@ -3,3 +3,4 @@ pub mod Exact
 pub mod Promises
 pub mod Sound
 pub mod RoundTrip
+pub mod Eleven

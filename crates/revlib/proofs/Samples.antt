@@ -22,17 +22,17 @@ abbrev front : List ℕ
 front = bytes ".version 2.0\n.numvars 3\n.variables a b c\n.begin\n"
 
 -- gates in order, target last, controls in any order
-gates-read : readOf (front ++ bytes "t1 a\nt3 b a c\nt2 c a\n.end\n") 15 ≡ answered (96 ∷ 24 ∷ 3 ∷ 0 ∷ 67 ∷ 4 ∷ [])
+gates-read : readOf (front ++ bytes "t1 a\nt3 b a c\nt2 c a\n.end\n") 15 ≡ answered (0x60 ∷ 0x18 ∷ 3 ∷ 0x00 ∷ 0x43 ∷ 0x04 ∷ [])
 unfolding allOf circuitBytes spaced numvarsLine variablesLine constantsLine constantsWord heading gateLine isIn different lowerCase
     dataCount headingOk lineOk wireOf gateByte recordOf starts announced lineAt lineHere endHere linesAt namesAt constantsAt constantsIn
     headingHere restOf parse readOf
 gates-read = refl
 
 -- the headings: four data wires with and without `.constants`, and one ancilla beside three and beside four
-headings-read : (readOf (bytes ".version 2.0\n.numvars 4\n.variables q r s t\n.begin\n.end\n") 15 ≡ answered (128 ∷ 27 ∷ 0 ∷ []))
-    × ((readOf (bytes ".version 2.0\n.numvars 4\n.variables q r s t\n.constants ----\n.begin\n.end\n") 15 ≡ answered (128 ∷ 27 ∷ 0 ∷ []))
-    × ((readOf (bytes ".version 2.0\n.numvars 4\n.variables q r s t\n.constants ---0\n.begin\n.end\n") 15 ≡ answered (104 ∷ 24 ∷ 0 ∷ []))
-    × (readOf (bytes ".version 2.0\n.numvars 5\n.variables q r s t z\n.constants ----0\n.begin\nt1 z\n.end\n") 15 ≡ answered (136 ∷ 27 ∷ 1 ∷ 128 ∷ []))))
+headings-read : (readOf (bytes ".version 2.0\n.numvars 4\n.variables q r s t\n.begin\n.end\n") 15 ≡ answered (0x80 ∷ 0x1B ∷ 0 ∷ []))
+    × ((readOf (bytes ".version 2.0\n.numvars 4\n.variables q r s t\n.constants ----\n.begin\n.end\n") 15 ≡ answered (0x80 ∷ 0x1B ∷ 0 ∷ []))
+    × ((readOf (bytes ".version 2.0\n.numvars 4\n.variables q r s t\n.constants ---0\n.begin\n.end\n") 15 ≡ answered (0x68 ∷ 0x18 ∷ 0 ∷ []))
+    × (readOf (bytes ".version 2.0\n.numvars 5\n.variables q r s t z\n.constants ----0\n.begin\nt1 z\n.end\n") 15 ≡ answered (0x88 ∷ 0x1B ∷ 1 ∷ 0x80 ∷ []))))
 unfolding allOf circuitBytes spaced numvarsLine variablesLine constantsLine constantsWord heading gateLine isIn different lowerCase
     dataCount headingOk lineOk wireOf gateByte recordOf starts announced lineAt lineHere endHere linesAt namesAt constantsAt constantsIn
     headingHere restOf parse readOf
@@ -51,7 +51,7 @@ unfolding allOf circuitBytes spaced numvarsLine variablesLine constantsLine cons
 departures = (refl, (refl, (refl, (refl, (refl, (refl, refl))))))
 
 -- twelve gates and thirteen, a departure after thirteen, and a buffer of 14 bytes
-numbers : (readOf (front ++ (times 12 (bytes "t1 b\n") ++ bytes ".end\n")) 15 ≡ answered (96 ∷ 24 ∷ 12 ∷ times 12 (32 ∷ [])))
+numbers : (readOf (front ++ (times 12 (bytes "t1 b\n") ++ bytes ".end\n")) 15 ≡ answered (0x60 ∷ 0x18 ∷ 12 ∷ times 12 (0x20 ∷ [])))
     × ((readOf (front ++ (times 13 (bytes "t1 b\n") ++ bytes ".end\n")) 15 ≡ refused 23)
     × ((readOf (front ++ (times 13 (bytes "t1 b\n") ++ bytes ".stop\n")) 15 ≡ refused 22) × (readOf (front ++ bytes ".stop\n") 14 ≡ refused 13)))
 unfolding allOf circuitBytes spaced numvarsLine variablesLine constantsLine constantsWord heading gateLine isIn different lowerCase
@@ -60,7 +60,7 @@ unfolding allOf circuitBytes spaced numvarsLine variablesLine constantsLine cons
 numbers = (refl, (refl, (refl, refl)))
 
 -- a record's text
-text-written : textOf (96 ∷ 24 ∷ 2 ∷ 0 ∷ 67 ∷ []) ≡ front ++ bytes "t1 a\nt3 a b c\n.end\n"
+text-written : textOf (0x60 ∷ 0x18 ∷ 2 ∷ 0x00 ∷ 0x43 ∷ []) ≡ front ++ bytes "t1 a\nt3 a b c\n.end\n"
 unfolding textOf describe render heading numvarsLine variablesLine constantsLine spaced body gateLine lineFor lettersFor constantsFor wires
     dataWires ancillas gateOf ones onesIn trailingZeros leadingZeros
 text-written = refl

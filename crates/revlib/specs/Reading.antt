@@ -1,13 +1,14 @@
 -- Reading `.real` text. A description is read off the fixed places of a text, and it is what the text says if its rendering is the text.
 -- Then what the call that reads a text answers.
 use mathlib.Core.Bool.{Bool, true, false}
-use mathlib.Core.List.{List, [], _∷_, _++_}
+use mathlib.Core.List.{List, [], _∷_}
 use mathlib.Core.Option.{Option, none, some}
 use Prim.Native.Nat.{ℕ, zero, suc, _+_, _-_, _*_}
 use lib.Dec.{leb, eqb}
 use lib.ListN.{length, getD, take, drop}
 use Rattle.logic.specs.Rules.{both, pick}
 use Rattle.logic.specs.Answers.{Answer, refused, answered}
+use Rattle.text.specs.pieces.Text.{inFront}
 use Rattle.revlib.specs.Grammar.{Constants, unsaid, allData, oneAncilla, Description, heading, gateLine, headingOk, lineOk, recordOf}
 use Rattle.logic.specs.Words.{bytes}
 
@@ -102,4 +103,4 @@ sizeOf (answered bytes) = answered (length bytes)
 -- the buffer afterwards: a refusal leaves it as it was; a record is written from byte 0, and later bytes are untouched
 abbrev pub written : Answer (List ℕ) → List ℕ → List ℕ
 written (refused code) answer = answer
-written (answered bytes) answer = bytes ++ drop (length bytes) answer
+written (answered bytes) answer = inFront bytes answer

@@ -3,13 +3,14 @@ use mathlib.Core.Bool.{not}
 use mathlib.Core.List.{List, [], _∷_, _++_, map}
 use Prim.Native.Nat.{ℕ, _+_}
 use lib.Dec.{eqb, leb}
-use lib.ListN.{length, drop}
+use lib.ListN.{length}
 use Rattle.logic.specs.Rules.{pick, rule, andThen}
 use Rattle.logic.specs.Lists.{numbersFrom}
 use Rattle.gate.specs.declared.Kind.{Kind}
 use Rattle.gate.specs.declared.Kind.the-variants.{Not, Cnot, Toffoli, Cccnot}
 use Rattle.gate.specs.Gates.{gateOf}
 use Rattle.table.specs.layouts.Layouts.{plain}
+use Rattle.text.specs.pieces.Text.{inFront}
 use Rattle.record.specs.job_fields.Jobs.{dataWires, ancillas, wires}
 use Rattle.record.specs.circuit_rules.CircuitRules.{circuitCode}
 use Rattle.record.specs.circuit_fields.Circuits.{marked, layoutOf, gates}
@@ -70,4 +71,4 @@ lengthOf (answered text) = answered (length text)
 abbrev pub filled : Reply (List ℕ) → List ℕ → List ℕ
 filled (refused code) out = out
 filled (short code needed) out = out
-filled (answered text) out = text ++ drop (length text) out
+filled (answered text) out = inFront text out

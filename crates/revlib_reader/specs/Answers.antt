@@ -8,6 +8,6 @@ parsedAnswer (Parsed.Refused code) = refused code
 parsedAnswer (Parsed.Record size) = answered size
 
 -- the length of the record, 0 for a refusal: callers cut their buffer there
-abbrev pub sizeIn : Parsed → ℕ
-sizeIn (Parsed.Refused code) = 0
-sizeIn (Parsed.Record size) = size
+abbrev pub parsedSize : Parsed → ℕ
+parsedSize (Parsed.Refused code) = 0
+parsedSize (Parsed.Record size) = size

@@ -1,22 +1,13 @@
--- What the structs of the private functions say of the text. No public contract cites this.
+-- What the struct of a private function says of the text. No public contract cites this.
 use mathlib.Core.Path.{_≡_}
-use mathlib.Core.Bool.{true, false}
-use mathlib.Core.List.{List, map}
-use mathlib.Core.Option.{Option, none, some}
+use mathlib.Core.Bool.{false}
+use mathlib.Core.List.{List}
 use Prim.Native.Nat.{ℕ, _≤_, _<_}
-use lib.ListN.{length, take}
+use lib.ListN.{take}
 use Rattle.logic.specs.Answers.{Answer, refused, answered}
 use Rattle.table.specs.layouts.Layouts.{plain}
 use Rattle.record.specs.circuit_fields.Circuits.{circuitBytes}
-use Rattle.revlib.specs.Grammar.{gateByte}
-use Rattle.logic.specs.Words.{bytes}
-use Rattle.revlib_reader.specs.declared.Body.{Body}
 use Rattle.revlib_reader.specs.declared.Circuit.{Circuit}
-
--- the gate lines read, with the gate bytes of up to twelve; or a departure from the form
-abbrev pub BodyIs : List ℕ → Option (List (List ℕ)) → Body → Type 0
-BodyIs ls none b = b .sound ≡ false
-BodyIs ls (some l) b = (b .sound ≡ true) × ((b .count ≡ length l) × (b .count ≤ 12 → take (b .count) (b .gates) ≡ map (gateByte ls) l))
 
 -- the circuit that the text says, or the refusal code
 abbrev pub CircuitIs : Answer (List ℕ) → Circuit → Type 0

@@ -1,5 +1,4 @@
-// Reads one line of the body of a `.real` text. `Reader` is the struct over the text with a position that document 01 asks for; its
-// functions are thin, and the work is done by `opener_at` on a slice and an index.
+// Reads one line of the body of a `.real` text, on a slice and an index.
 use crate::gate_words;
 use crate::keywords;
 ghost use mathlib.Core.Path.{_≡_};
@@ -13,12 +12,6 @@ pub enum Opener {
     End,
     Gate(usize),
     Other,
-}
-
-// A text and a position in it.
-struct Reader<'a> {
-    src: &'a [u8],
-    at: usize,
 }
 
 // A line of the body: a gate line with its gate byte and its length, the end, or a departure from the form.
@@ -44,27 +37,6 @@ fn opener_at(s: &[u8], at: usize) -> Opener
     }
 }
 
-// A reader of a text, at the position `at`.
-fn new<'a>(src: &'a [u8], at: usize) -> Reader<'a>
-    ensures { λ r. ⌜ (r .src ≡ src .entry) × (r .at ≡ at) ⌝ }
-{
-    Reader { src, at }
-}
-
-// What the line at the reader's position begins with.
-fn next<'a>(r: Reader<'a>) -> Opener
-    ensures { λ o. ⌜ o ≡ openerOf (now (r .entry .src)) (r .entry .at) ⌝ }
-{
-    opener_at(r.src, r.at)
-}
-
-// What the line at index `at` begins with, asked through a reader; callers of this function hold a slice and an index only.
-fn first_word(s: &[u8], at: usize) -> Opener
-    ensures { λ r. ⌜ r ≡ openerOf (now (s .entry)) at ⌝ }
-{
-    next(new(s, at))
-}
-
 // The gate line at the start of a text whose first word announces `count` letters.
 fn gate_line(s: &[u8], count: usize, letters: &[u8]) -> Line
     requires { ⌜ (count ≡ announced (now s)) × ((1 ≤ count) × (count ≤ 3)) ⌝ }
@@ -86,7 +58,7 @@ pub fn line_at(s: &[u8], at: usize, letters: &[u8]) -> Line
     requires { ⌜ length (now letters) ≤ 5 ⌝ }
     ensures { λ r. ⌜ r ≡ lineOf (now (letters .entry)) (drop at (now (s .entry))) ⌝ }
 {
-    match first_word(s, at) {
+    match opener_at(s, at) {
         Opener::End => Line::End,
         Opener::Gate(count) => gate_line(keywords::rest(s, at), count, letters),
         Opener::Other => Line::Other,

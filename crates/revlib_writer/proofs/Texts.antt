@@ -13,7 +13,6 @@ use Rattle.record.specs.job_fields.Jobs.{dataWires, ancillas, wires}
 use Rattle.record.specs.circuit_rules.CircuitRules.{circuitCode}
 use Rattle.record.specs.circuit_fields.Circuits.{gates}
 use Rattle.record.proofs.circuit_rules.Sound.{circuit-wires-within}
-use Rattle.text.specs.pieces.Text.{inFront}
 use Rattle.text.specs.pieces.Writing.{Wrote}
 use Rattle.text.proofs.pieces.Pieces.{line-size, line-in-front}
 use Rattle.revlib.specs.Grammar.{body, render}
@@ -61,5 +60,4 @@ module _ (c : List ℕ) where
         told = rw (fits h, line-size w)
 
         pub wrote : new ≡ filled (writeOf c (length out)) out
-        unfolding inFront
         wrote = line-in-front w h ∙ rw (fits h)

@@ -15,7 +15,7 @@ use Rattle.table.specs.Rows.{rowOk, bitAgrees, rowAgrees, agreesFrom, clean, re
 use Rattle.record.specs.job_fields.Jobs.{longer, dataWires, ancillas, wires, freeLayout, gateLimit, costLimit, depthLimit, prices, durations}
 use Rattle.record.specs.JobRules.{jobLengthOk, sizeOk, headOk, limitOk, durationsOk, rowsOk, jobCode}
 use Rattle.record.specs.circuit_rules.CircuitRules.{circuitLengthOk, shapeOk, circuitCode}
-use Rattle.record.specs.circuit_fields.Circuits.{marked, layoutOf, countOf, circuitBytes}
+use Rattle.record.specs.circuit_fields.Circuits.{marked, layoutOf, countByte, circuitBytes}
 use Rattle.circuit.specs.measures.Measures.{measuresOf}
 use Rattle.verify.specs.Calls.{measureOf, verifyCode, verifyOf, verifyRest}
 use Rattle.record.specs.pair_codes.Codes.{sameWires, markFits, circuitCodeFor, measureCode, runCode, searchCode}
@@ -30,7 +30,7 @@ use Rattle.samples.specs.Table.{Sample, holds, samples, failing}
 pub all-hold : failing 1 samples ≡ 0
 unfolding failing samples holds lawful step gateOf weightOf hold greatest total along back allOf parityOf tableParity permutes full
     distinct inversions smaller jobCode jobLengthOk sizeOk headOk limitOk durationsOk rowsOk rowOk dataWires ancillas wires freeLayout
-    gateLimit costLimit depthLimit prices durations layoutOf countOf circuitLengthOk shapeOk circuitCode layoutOk allowed bitAgrees
+    gateLimit costLimit depthLimit prices durations layoutOf countByte circuitLengthOk shapeOk circuitCode layoutOk allowed bitAgrees
     rowAgrees agreesFrom runCode runOf measuresOf sameWires circuitCodeFor measureCode measureOf limitsCode verifyRest verifyCode verifyOf ones onesIn
     trailingZeros leadingZeros lexLess before keep attempt improve under choiceOf here within firstGood problemOver recordOf circuitBytes searchOver searchCode searchOf
     layoutsFor clean realizes longer marked markFits

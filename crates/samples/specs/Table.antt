@@ -1,5 +1,5 @@
--- The samples marked P in document 01, and a smallest record for each refusal code, as rows of one table. Gate bytes stand in decimal; a
--- comment gives the hexadecimal of document 01.
+-- The samples marked P in document 01, and a smallest record for each refusal code, as rows of one table. Gate and layout bytes stand in
+-- hexadecimal, as in document 01.
 use Prim.Native.Nat.{ℕ, suc, _+_}
 use mathlib.Core.Bool.{Bool, true, false, not}
 use mathlib.Core.List.{List, [], _∷_, map}
@@ -156,30 +156,30 @@ holds (searchRefused job room n) = refusedBy n (searchOf job room)
 -- the samples of document 01 first, then a smallest record for each refusal code, with its neighbours that pass
 unfoldable pub samples : List Sample
 samples =
-    toffoli 67 2 0 1  -- 43 is a Toffoli on wire 2 with controls 0 and 1
-    ∷ turns 67 3 7
-    ∷ turns 67 7 3
-    ∷ turns 67 5 5
-    ∷ turns 33 1 3  -- 21 turns 1 into 3
-    ∷ isUnlawful 2 3 34  -- 22: the target is among the controls
-    ∷ isUnlawful 2 4 34
-    ∷ isUnlawful 2 5 34
-    ∷ isUnlawful 3 5 34
-    ∷ controls 103 3  -- 67 has three controls: unlawful under a shorter job, lawful under a longer one, of four wires or five
-    ∷ isUnlawful 2 4 103
-    ∷ isUnlawful 2 5 103
-    ∷ isLawful 3 4 103
-    ∷ isLawful 3 5 103
-    ∷ isUnlawful 3 3 103
-    ∷ turns 103 7 15
-    ∷ turns 103 15 7
-    ∷ turns 103 11 11
-    ∷ isLawful 2 4 96  -- 60 is lawful for four wires, not for three
-    ∷ isUnlawful 2 3 96
-    ∷ deep (0 ∷ 32 ∷ []) 1  -- 00 20
-    ∷ deep (65 ∷ 33 ∷ []) 2  -- 41 21
-    ∷ costs (33 ∷ 67 ∷ []) 6  -- 21 43
-    ∷ deep (33 ∷ 67 ∷ []) 8
+    toffoli 0x43 2 0 1  -- a Toffoli on wire 2 with controls 0 and 1
+    ∷ turns 0x43 3 7
+    ∷ turns 0x43 7 3
+    ∷ turns 0x43 5 5
+    ∷ turns 0x21 1 3
+    ∷ isUnlawful 2 3 0x22  -- the target is among the controls
+    ∷ isUnlawful 2 4 0x22
+    ∷ isUnlawful 2 5 0x22
+    ∷ isUnlawful 3 5 0x22
+    ∷ controls 0x67 3  -- three controls: unlawful under a shorter job, lawful under a longer one, of four wires or five
+    ∷ isUnlawful 2 4 0x67
+    ∷ isUnlawful 2 5 0x67
+    ∷ isLawful 3 4 0x67
+    ∷ isLawful 3 5 0x67
+    ∷ isUnlawful 3 3 0x67
+    ∷ turns 0x67 7 15
+    ∷ turns 0x67 15 7
+    ∷ turns 0x67 11 11
+    ∷ isLawful 2 4 0x60  -- lawful for four wires, not for three
+    ∷ isUnlawful 2 3 0x60
+    ∷ deep (0x00 ∷ 0x20 ∷ []) 1
+    ∷ deep (0x41 ∷ 0x21 ∷ []) 2
+    ∷ costs (0x21 ∷ 0x43 ∷ []) 6
+    ∷ deep (0x21 ∷ 0x43 ∷ []) 8
     ∷ hasParity (full4 (1 ∷ 10 ∷ 4 ∷ 12 ∷ 6 ∷ 15 ∷ 3 ∷ 9 ∷ 2 ∷ 13 ∷ 11 ∷ 7 ∷ 5 ∷ 0 ∷ 8 ∷ 14 ∷ [])) even  -- GIFT
     ∷ hasParity (full4 (0 ∷ 6 ∷ 2 ∷ 4 ∷ 9 ∷ 3 ∷ 13 ∷ 5 ∷ 1 ∷ 14 ∷ 12 ∷ 7 ∷ 8 ∷ 10 ∷ 11 ∷ 15 ∷ [])) odd  -- 062493D51EC78ABF
     ∷ hasParity (full3 (0 ∷ 1 ∷ 2 ∷ 3 ∷ 4 ∷ 5 ∷ 6 ∷ 6 ∷ [])) neither  -- 6 stands twice
@@ -202,24 +202,24 @@ samples =
     ∷ circuitRefused (0x62 ∷ 0x18 ∷ 0 ∷ []) 8  -- the bit beside the mark
     ∷ circuitRefused (0x60 ∷ 0x08 ∷ 0 ∷ []) 9  -- outputs 0 and 1 on wire 0
     ∷ circuitRefused (0x60 ∷ 0x18 ∷ 1 ∷ []) 10
-    ∷ circuitRefused (0x60 ∷ 0x18 ∷ 1 ∷ 34 ∷ []) 21  -- 22 again
-    ∷ circuitRefused (0x80 ∷ 0x1B ∷ 1 ∷ 103 ∷ []) 21  -- 67, not marked
-    ∷ circuitSound (0x81 ∷ 0x1B ∷ 1 ∷ 103 ∷ [])
-    ∷ runs (0x60 ∷ 0x18 ∷ 2 ∷ 0 ∷ 33 ∷ []) 0 3 1  -- 00 21, there and back
+    ∷ circuitRefused (0x60 ∷ 0x18 ∷ 1 ∷ 0x22 ∷ []) 21
+    ∷ circuitRefused (0x80 ∷ 0x1B ∷ 1 ∷ 0x67 ∷ []) 21  -- three controls, not marked
+    ∷ circuitSound (0x81 ∷ 0x1B ∷ 1 ∷ 0x67 ∷ [])
+    ∷ runs (0x60 ∷ 0x18 ∷ 2 ∷ 0x00 ∷ 0x21 ∷ []) 0 3 1  -- there and back
     ∷ runRefused empty 8 20
     ∷ measures (anything 0 0 0) oneNot 1 1 1 (1 ∷ 0 ∷ 0 ∷ 0 ∷ 0 ∷ [])
-    ∷ measures (anything 0 0 0) (0x60 ∷ 0x18 ∷ 2 ∷ 65 ∷ 33 ∷ []) 2 2 2 (2 ∷ 2 ∷ 1 ∷ 0 ∷ 0 ∷ [])  -- 41 21
-    ∷ measures (anything 0 0 0) (0x60 ∷ 0x18 ∷ 2 ∷ 33 ∷ 67 ∷ []) 2 6 8 (8 ∷ 8 ∷ 8 ∷ 0 ∷ 0 ∷ [])  -- 21 43
+    ∷ measures (anything 0 0 0) (0x60 ∷ 0x18 ∷ 2 ∷ 0x41 ∷ 0x21 ∷ []) 2 2 2 (2 ∷ 2 ∷ 1 ∷ 0 ∷ 0 ∷ [])
+    ∷ measures (anything 0 0 0) (0x60 ∷ 0x18 ∷ 2 ∷ 0x21 ∷ 0x43 ∷ []) 2 6 8 (8 ∷ 8 ∷ 8 ∷ 0 ∷ 0 ∷ [])
     ∷ measureRefused (anything 0 0 0) (0x80 ∷ 0x1B ∷ 0 ∷ []) 12  -- four data wires for three
     ∷ verifyRefused (anything 0 0 0) (0x68 ∷ 0x18 ∷ 0 ∷ []) 12  -- an ancilla for none
     ∷ measureRefused (anything 0 0 0) (0x61 ∷ 0x18 ∷ 0 ∷ []) 28  -- marked, under a shorter job
     ∷ verifyRefused (anything 0 0 0) (0x61 ∷ 0x48 ∷ 0 ∷ []) 28  -- and before 15
     ∷ passes (long 0x60 0 0 0 11 (two 0 0)) empty 0 0 0 (0 ∷ 0 ∷ 0 ∷ 0 ∷ 0 ∷ [])  -- not marked, under a longer one
-    ∷ passes (long 0x80 1 9 11 11 exchanged) (0x81 ∷ 0x1B ∷ 1 ∷ 103 ∷ []) 1 9 11 (11 ∷ 11 ∷ 11 ∷ 11 ∷ 0 ∷ [])
+    ∷ passes (long 0x80 1 9 11 11 exchanged) (0x81 ∷ 0x1B ∷ 1 ∷ 0x67 ∷ []) 1 9 11 (11 ∷ 11 ∷ 11 ∷ 11 ∷ 0 ∷ [])
     ∷ verifyRefused (anything 0 0 0) (0x60 ∷ 0x48 ∷ 0 ∷ []) 15  -- a layout that is not the plain one
     ∷ verifyRefused (short 0x60 0 0 0 1 (two 0x11 0)) empty 16  -- row 0 wants bit 0 to be 1
-    ∷ verifyRefused (short 0x68 0 0 0 1 (two 0 0)) (0x68 ∷ 0x18 ∷ 1 ∷ 96 ∷ []) 24  -- 60 leaves the ancilla at 1, though no bit is wanted
-    ∷ passes (short 0x68 2 2 2 1 (two 0 0)) (0x68 ∷ 0x18 ∷ 2 ∷ 96 ∷ 96 ∷ []) 2 2 2 (0 ∷ 0 ∷ 0 ∷ 2 ∷ 0 ∷ [])  -- 60 60 puts it back
+    ∷ verifyRefused (short 0x68 0 0 0 1 (two 0 0)) (0x68 ∷ 0x18 ∷ 1 ∷ 0x60 ∷ []) 24  -- the ancilla is left at 1, though no bit is wanted
+    ∷ passes (short 0x68 2 2 2 1 (two 0 0)) (0x68 ∷ 0x18 ∷ 2 ∷ 0x60 ∷ 0x60 ∷ []) 2 2 2 (0 ∷ 0 ∷ 0 ∷ 2 ∷ 0 ∷ [])  -- it is put back
     ∷ passes (short 0x60 0 0 0 1 (two 0x10 0x11)) empty 0 0 0 (0 ∷ 0 ∷ 0 ∷ 0 ∷ 0 ∷ [])
     ∷ verifyRefused (anything 0 1 1) oneNot 17
     ∷ verifyRefused (anything 1 0 1) oneNot 18

@@ -1,4 +1,5 @@
 pub mod Steps
 pub mod Ahead
 pub mod Promises
+pub mod Turns
 pub mod Count

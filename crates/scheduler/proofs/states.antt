@@ -1,3 +1,4 @@
 pub mod Views
 pub mod Rules
 pub mod Serving
+pub mod Eleven

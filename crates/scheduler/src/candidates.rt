@@ -5,7 +5,8 @@ ghost use mathlib.Core.List.{[]};
 ghost use Prim.Native.Nat.{_≤_, _<_};
 ghost use lib.ListN.{length, getD, take, drop};
 ghost use Rattle.problem.specs.Problems.{Problem};
-ghost use Rattle.scheduler.specs.candidates.Inner.{atLast, digit, over, bump, chosen, digitsAt, afterAt, remaining};
+ghost use Rattle.scheduler.specs.candidates.Inner.{atLast, digit, over, bump, afterAt, remaining};
+ghost use Rattle.scheduler.specs.candidates.Left.{chosen, digitsAt};
 
 // The place of a candidate: a list of `len` gates, each given by a digit, its index in the table of gates; and a layout, by its index among
 // those allowed.

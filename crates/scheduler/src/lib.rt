@@ -1,11 +1,11 @@
-// Eight slots that share one machine (document 02, slip 13, calls them desks). `start` gives eight empty slots; `post` gives a job to an
-// empty slot; each `turn` serves the next working slot, which tries one candidate circuit; `collect` writes the answer of a finished slot
-// and empties it. Each call takes the slots by value and returns them changed, with its answer: for `post` accepted or a refusal code, for
-// `turn` the slot served, for `collect` what `search` would return. Proved of them (proofs/fairness/Promises.antt): a job with N candidates
-// is finished after N turns of its own and at most 8 N turns in all, with the answer that `search` gives to the job alone.
-// Definitions to read, in this order: specs/slot/Slots.antt (one slot), specs/states/States.antt (eight slots, and what each call does),
-// specs/candidates/Candidates.antt (the order of trying), specs/fairness/Histories.antt (sequences of calls). The others, View, Calls and
-// Inner, tie the code's structs to these.
+// Eight slots that share one machine (document 02, change request 13, calls them desks). `start` gives eight empty slots; `post` gives a
+// job to an empty slot; each `turn` serves the next working slot, which tries one candidate circuit; `collect` writes the answer of a
+// finished slot and empties it. Each call takes the slots by value and returns them changed, with its answer: for `post` accepted or a
+// refusal code, for `turn` the slot served, for `collect` what `search` would return. Proved of them (proofs/fairness/Promises.antt): a job
+// with N candidates is finished after N turns of its own and at most 8 N turns in all, with the answer that `search` gives to the job
+// alone. Definitions to read, in this order: specs/slot/Slots.antt (one slot), specs/states/States.antt (eight slots, and what each call
+// does), specs/candidates/Candidates.antt (the order of trying), specs/fairness/Histories.antt (sequences of calls). The others, View,
+// Calls, Left and Inner, tie the code's structs to these.
 pub mod candidates; // the candidates of a problem, one after the other
 pub mod fairness; // theorems: how many turns a job takes, and its answer (no code)
 pub mod slot; // one slot: its job, the candidate to try next, and the best circuit so far
@@ -17,8 +17,10 @@ pub use crate::states::Slots;
 pub use crate::states::start;
 use outcomes::Searched;
 ghost use mathlib.Core.Path.{_≡_};
-ghost use Prim.Native.Nat.{_≤_};
+ghost use mathlib.Core.Option.{none};
+ghost use Prim.Native.Nat.{ℕ, _≤_};
 ghost use lib.ListN.{length};
+ghost use Rattle.logic.specs.Answers.{refused};
 ghost use Rattle.outcomes.specs.Outcomes.{reported, written, searchedAnswer, sizeIn};
 ghost use Rattle.scheduler.specs.states.States.{postOf, afterPost, servedBy, afterTurn, collectOf, afterCollect};
 ghost use Rattle.scheduler.specs.states.Calls.{viewState, postingAnswer, serviceAnswer};
@@ -44,6 +46,7 @@ pub struct Collected {
 // Posts a job to an empty slot. A refusal leaves the slots as they were.
 pub fn post(slots: Slots, which: usize, job: &[u8]) -> Posted
     ensures { λ r. ⌜ postingAnswer (r .answer) ≡ postOf (viewState slots) which (now (job .entry)) ⌝ }
+    ensures { λ r. ⌜ ((n : ℕ) → postingAnswer (r .answer) ≡ refused n → r .slots ≡ slots) ⌝ }
     ensures { λ r. ⌜ viewState (r .slots) ≡ afterPost (viewState slots) which (now (job .entry)) ⌝ }
 {
     let code = states::post_code(slots, which, job);
@@ -64,6 +67,7 @@ pub fn post(slots: Slots, which: usize, job: &[u8]) -> Posted
 // One turn: the next working slot tries one candidate. Where no slot is working, nothing changes.
 pub fn turn(slots: Slots) -> Turned
     ensures { λ r. ⌜ serviceAnswer (r .answer) ≡ servedBy (viewState slots) ⌝ }
+    ensures { λ r. ⌜ (serviceAnswer (r .answer) ≡ none → r .slots ≡ slots) ⌝ }
     ensures { λ r. ⌜ viewState (r .slots) ≡ afterTurn (viewState slots) ⌝ }
 {
     let service = states::next_working(slots);
@@ -88,6 +92,7 @@ pub fn turn(slots: Slots) -> Turned
 pub fn collect(slots: Slots, which: usize, answer: &mut [u8]) -> Collected
     ensures { λ r. ⌜ searchedAnswer (r .answer) ≡ reported (collectOf (viewState slots) which (length (now (answer .entry)))) ⌝ }
     ensures { λ r. ⌜ sizeIn (r .answer) ≤ 15 ⌝ }
+    ensures { λ r. ⌜ ((n : ℕ) → searchedAnswer (r .answer) ≡ refused n → (n ≡ 14 → ⊥) → r .slots ≡ slots) ⌝ }
     ensures { λ r. ⌜ viewState (r .slots) ≡ afterCollect (viewState slots) which (length (now (answer .entry))) ⌝ }
     ensures { λ _. ⌜ now (answer .exit)
         ≡ written (collectOf (viewState slots) which (length (now (answer .entry)))) (now (answer .entry)) ⌝ }

@@ -14,7 +14,7 @@ ghost use mathlib.Core.Path.{_≡_};
 ghost use Prim.Native.Nat.{_≤_};
 ghost use lib.ListN.{length, take};
 ghost use Rattle.record.specs.JobRules.{jobCode};
-ghost use Rattle.problem.specs.order.Inner.{view};
+ghost use Rattle.problem.specs.order.View.{view};
 ghost use Rattle.problem.specs.Problems.{firstGood};
 ghost use Rattle.outcomes.specs.Outcomes.{GateSet, problemOver, problemOf, searchOf, reported, written, searchedAnswer, sizeIn};
 ghost use Rattle.outcomes.specs.Inner.{Lawfuls, Tabled};

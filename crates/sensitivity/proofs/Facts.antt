@@ -14,13 +14,14 @@ use lib.IntN.{pos, negℤ}
 use lib.ListN.{length, getD}
 use Rattle.logic.specs.Rules.{both, pick, rule, andThen}
 use Rattle.logic.specs.Answers.{Answer, refused, answered}
-use Rattle.logic.proofs.Chain.{both-right, both-parts, both-true, either-second, rule-kept, and-then-zero}
+use Rattle.logic.proofs.Chain.{both-right, both-parts, both-true, either-second, rule-kept, rule-never, and-then-zero, and-then-never}
 use Rattle.logic.proofs.Counts.{all-below, some-at}
 use Rattle.circuit.specs.Measure.{cost}
 use Rattle.record.specs.JobRules.{jobCode}
 use Rattle.record.specs.job_fields.Jobs.{longer, dataWires, ancillas, costLimit, Bytes}
 use Rattle.record.specs.circuit_fields.Circuits.{gates}
 use Rattle.record.proofs.Kept.{sound-job}
+use Rattle.record.proofs.Never.{job-never, one-number, no-number, answer-never}
 use Rattle.record.proofs.circuit_rules.Written as Written
 use Rattle.circuit.specs.declared.measures.Measures.{Measures}
 use Rattle.circuit.specs.measures.Measures.{measuresOf}
@@ -64,6 +65,21 @@ past : (old new : List ℕ) → compareCode old new ≡ 0
     → priceChange old new ≡ changeBetween (reported (searchOf old 15)) (reported (searchOf new 15))
 unfolding priceChange
 past old new h = rw h
+
+-- 11 is never said
+pub change-never : (old new : List ℕ) → priceChange old new ≡ refused 11 → ⊥
+unfolding priceChange compareCode
+change-never old new =
+    answer-never 11 (compareCode old new) (changeBetween (reported (searchOf old 15)) (reported (searchOf new 15)))
+    (and-then-never 11 (jobCode old) _ (job-never old)
+    (and-then-never 11 (jobCode new) _ (job-never new)
+    (rule-never 11 (comparable old new) 38 0 (λ e. omega arith) (λ e. omega arith))))
+    (by-answers (searchOf old 15) (searchOf new 15) (Search.search-never old 15) (Search.search-never new 15))
+  where
+    by-answers : (x y : Answer Found) → (x ≡ refused 11 → ⊥) → (y ≡ refused 11 → ⊥) → changeBetween (reported x) (reported y) ≡ refused 11 → ⊥
+    by-answers (refused code) y f g h = f (ap refused (one-number 11 code h))
+    by-answers (answered o) (refused code) f g h = g (ap refused (one-number 11 code h))
+    by-answers (answered o) (answered n) f g h = no-number 11 (costDifference (o .measures .cost) (n .measures .cost)) h
 
 -- a difference is the new circuit's cost less the old one's
 pub change-is : (old new : List ℕ) → compareCode old new ≡ 0 → (f g : Found) → searchOf old 15 ≡ answered f → searchOf new 15 ≡ answered g
@@ -125,8 +141,14 @@ module _ (old new : List ℕ) (old-bytes : Bytes old) (new-bytes : Bytes new) (k
       apart f e = let z : _≡_ {A = ℕ} 0 1 = cc in omega arith
 
   -- 14 is told exactly where both are 14
-  pub none-told : searchOf old 15 ≡ refused 14 → priceChange old new ≡ refused 14
-  none-told h = past old new kept ∙ ap (λ (x : Answer Found). changeBetween (reported x) (reported (searchOf new 15))) h
+  pub none-told : (priceChange old new ≡ refused 14) ↔ ((searchOf old 15 ≡ refused 14) × (searchOf new 15 ≡ refused 14))
+  none-told = (
+    (λ h. ⊎-elim (λ b. b) (λ b. absurd (found h (b .0) (b .1 .0) (b .1 .1 .0) (b .1 .1 .1))) both-or-neither),
+    (λ b. past old new kept ∙ ap (λ (x : Answer Found). changeBetween (reported x) (reported (searchOf new 15))) (b .0)),
+  )
+    where
+      found : priceChange old new ≡ refused 14 → (f g : Found) → searchOf old 15 ≡ answered f → searchOf new 15 ≡ answered g → ⊥
+      found h f g o n = no-number 14 (costDifference (f .measures .cost) (g .measures .cost)) (sym (change-is old new kept f g o n) ∙ h)
 
   -- where a price differs, nothing else does
   located : (k : ℕ) → (getD old (pricePlace k) 0 ≡ getD new (pricePlace k) 0 → ⊥) → Changed old new k

@@ -1,8 +1,8 @@
-// The least gate count of each permutation of three wires. The call `fill` writes all 40,320 of them to a lent buffer, the sheet (document
-// 02, slip 4). A cell is one byte of the sheet: the cell at a permutation's place, in dictionary order of its eight values, holds the least
-// number of gates that make the permutation. A caller gets the whole sheet, or 25 for a buffer of another length.
-// The sheet is filled breadth first. Two permutations are neighbors where one gate makes the one of the other. A sweep goes over all cells
-// once: an empty cell (255) becomes k + 1 where a neighbor's cell holds k.
+// The least gate count of each permutation of three wires. The call `fill` writes all 40,320 of them to a lent buffer, the table of sizes
+// (document 02, change request 4). A cell is one byte of the table of sizes: the cell at a permutation's place, in dictionary order of its
+// eight values, holds the least number of gates that make the permutation. A caller gets the whole table of sizes, or 25 for a buffer of
+// another length. The table of sizes is filled breadth first. Two permutations are neighbors where one gate makes the one of the other. A
+// sweep goes over all cells once: an empty cell (255) becomes k + 1 where a neighbor's cell holds k.
 pub mod neighbors; // the place of a permutation's neighbor by a gate
 pub mod permutations; // definitions and theorems: permutations in dictionary order, and their least gate counts (no code)
 
@@ -14,9 +14,9 @@ ghost use lib.ListN.{length, getD};
 ghost use Rattle.logic.specs.Rules.{pick};
 ghost use Rattle.sizes.specs.permutations.Sizes.{twelve};
 ghost use Rattle.sizes.specs.permutations.Inner.{apart, grown, Level};
-ghost use Rattle.sizes.specs.Sheet.{fillOf, cellsLeft, filledAnswer};
+ghost use Rattle.sizes.specs.Filling.{fillOf, cellsLeft, filledAnswer};
 
-// The answer: a refusal code, or that the whole sheet was filled.
+// The answer: a refusal code, or that the whole table of sizes was filled.
 pub enum Filled {
     Refused(u8),
     Whole,
@@ -104,7 +104,7 @@ fn clear(cells: &mut [u8])
     }
 }
 
-// Fills a buffer of 40,320 bytes with the sheet of least gate counts.
+// Fills a buffer of 40,320 bytes with the table of sizes.
 pub fn fill(cells: &mut [u8]) -> Filled
     ensures { λ r. ⌜ filledAnswer r ≡ fillOf (now (cells .entry)) ⌝ }
     ensures { λ _. ⌜ now (cells .exit) ≡ cellsLeft (now (cells .entry)) ⌝ }

@@ -9,8 +9,16 @@ use scheduler::states::Posting;
 use scheduler::states::Service;
 use scheduler::states::Slots;
 ghost use mathlib.Core.Path.{_≡_};
-ghost use Prim.Native.Nat.{_≤_, _<_};
+ghost use mathlib.Core.Bool.{true};
+ghost use mathlib.Core.List.{List};
+ghost use Prim.Native.Nat.{ℕ, _+_, _≤_, _<_};
+ghost use lib.ListN.{length, getD};
+ghost use Rattle.text.specs.pieces.Text.{inFront};
+ghost use Rattle.printed.specs.job_line.Lines.{lineOf};
 ghost use Rattle.batch.specs.cutting.Records.{countOf};
+ghost use Rattle.scheduler.specs.states.States.{afterCollect};
+ghost use Rattle.scheduler.specs.states.Calls.{viewState};
+ghost use Rattle.slots.specs.Work.{jobOf, Kept};
 
 fn main() {
     if os::arg_count() != 2 {
@@ -61,6 +69,7 @@ fn say_heading(job: usize, turns: u64) {
 // What follows a refused post: where the slot is taken (36), the next slot is tried; any other refusal is the job's answer.
 fn after_refusal(w: Work, code: u8) -> Work
     requires { ⌜ (w .next < 64) × (w .free < 8) ⌝ }
+    ensures { λ r. ⌜ (r .slots ≡ w .slots) × (r .owners ≡ w .owners) ⌝ }
 {
     let mut next = w;
     if code == 36 {
@@ -76,6 +85,8 @@ fn after_refusal(w: Work, code: u8) -> Work
 // Posts the next job to the slot that is to be tried.
 fn post_next(jobs: &[u8], w: Work) -> Work
     requires { ⌜ (w .next < countOf (now jobs)) × ((w .next < 64) × (w .free < 8)) ⌝ }
+    ensures { λ r. ⌜ (Kept (now (jobs .entry)) (w .owners) (viewState (w .slots))
+        → Kept (now (jobs .entry)) (r .owners) (viewState (r .slots))) ⌝ }
 {
     let which = w.free;
     let number = w.next;
@@ -103,47 +114,85 @@ fn post_next(jobs: &[u8], w: Work) -> Work
     }
 }
 
-// Collects the answer of the slot that was served, if it is finished, and says it. The slot is then free.
-fn collect_served(w: Work, which: usize) -> Work {
+// The slots after one was collected, whether it was finished, and the length of the line that was written then.
+pub struct Finished {
+    pub slots: Slots,
+    pub done: bool,
+    pub size: usize,
+}
+
+// Collects a slot and, if it is finished, writes the line of its job to the start of `out`. The slot is then free.
+fn finished_line(slots: Slots, which: usize, out: &mut [u8]) -> Finished
+    requires { ⌜ which < 8 ⌝ }
+    requires { ⌜ 64 ≤ length (now out) ⌝ }
+    ensures { λ r. ⌜ r .size ≤ 64 ⌝ }
+    ensures { λ r. ⌜ viewState (r .slots) ≡ afterCollect (viewState slots) which 15 ⌝ }
+    ensures { λ r. ⌜ ((jobs owners : List ℕ) → Kept jobs owners (viewState slots) → r .done ≡ true
+        → (r .size ≡ length (lineOf (jobOf jobs owners which)))
+        × (now (out .exit) ≡ inFront (lineOf (jobOf jobs owners which)) (now (out .entry)))) ⌝ }
+{
     let mut answer = [0u8; 15];
-    let collected = scheduler::collect(w.slots, which, &mut answer);
+    let collected = scheduler::collect(slots, which, &mut answer);
+    let left = collected.slots;
     let told = collected.answer;
-    if is_unfinished(told) {
-        return w;
-    }
-    let owners = w.owners;
-    say_heading(owner_at(owners, which), w.turns);
-    slot_lines::say_answer(told, &answer);
-    let slots = collected.slots;
-    Work {
-        slots,
-        next: w.next,
-        free: which,
-        owners,
-        turns: w.turns,
-        done: false,
+    match told {
+        Searched::Refused(code) => {
+            let size = text::refused_line(code, out);
+            Finished {
+                slots: left,
+                done: code != 37,
+                size,
+            }
+        }
+        Searched::Found(n, m) => {
+            let size = text::found_line(m, &answer[..n], out);
+            Finished {
+                slots: left,
+                done: true,
+                size,
+            }
+        }
     }
 }
 
-// Whether a collect was refused because the slot is not finished (37).
-fn is_unfinished(told: Searched) -> bool {
-    match told {
-        Searched::Refused(code) => code == 37,
-        Searched::Found(_, _) => false,
+// Collects the answer of the slot that was served, if it is finished, and says it.
+fn collect_served(w: Work, which: usize) -> Work
+    requires { ⌜ which < 8 ⌝ }
+    ensures { λ r. ⌜ ((jobs : List ℕ) → Kept jobs (w .owners) (viewState (w .slots)) → Kept jobs (r .owners) (viewState (r .slots))) ⌝ }
+{
+    let mut out = [0u8; 64];
+    let line = finished_line(w.slots, which, &mut out);
+    let slots = line.slots;
+    let mut next = w;
+    next.slots = slots;
+    if !line.done {
+        return next;
     }
+    let owners = w.owners;
+    let size = line.size;
+    say_heading(owner_at(owners, which), w.turns);
+    output::say(&out[..size]);
+    next.free = which;
+    next
 }
 
 // The job of a slot, counted from 1.
-fn owner_at(owners: [u8; 8], which: usize) -> usize {
+fn owner_at(owners: [u8; 8], which: usize) -> usize
+    ensures { λ r. ⌜ (which < 8 → r ≡ getD owners which 0 + 1) ⌝ }
+{
     if which < 8 { counted(owners[which]) } else { 0 }
 }
 
-fn counted(number: u8) -> usize {
+fn counted(number: u8) -> usize
+    ensures { λ r. ⌜ r ≡ number + 1 ⌝ }
+{
     logic::wide(number) + 1
 }
 
 // Takes a turn. Where no slot is working, the work is done.
-fn take_turn(w: Work) -> Work {
+fn take_turn(w: Work) -> Work
+    ensures { λ r. ⌜ ((jobs : List ℕ) → Kept jobs (w .owners) (viewState (w .slots)) → Kept jobs (r .owners) (viewState (r .slots))) ⌝ }
+{
     let turned = scheduler::turn(w.slots);
     let slots = turned.slots;
     let answer = turned.answer;
@@ -164,6 +213,8 @@ fn take_turn(w: Work) -> Work {
 // Posts the next job, if there is one and a slot to try for it, and else takes a turn.
 fn step(jobs: &[u8], count: usize, w: Work) -> Work
     requires { ⌜ (count ≡ countOf (now jobs)) × (count ≤ 64) ⌝ }
+    ensures { λ r. ⌜ (Kept (now (jobs .entry)) (w .owners) (viewState (w .slots))
+        → Kept (now (jobs .entry)) (r .owners) (viewState (r .slots))) ⌝ }
 {
     if 8 <= w.free {
         return take_turn(w);

@@ -5,7 +5,7 @@ use mathlib.Core.Option.{none}
 use Prim.Native.Nat.{ℕ, _+_, _-_, _≤_}
 use native.Mathlib.Omega.{arith}
 use Rattle.problem.specs.declared.order.Best.{Best}
-use Rattle.problem.specs.order.Inner.{view}
+use Rattle.problem.specs.order.View.{view}
 use Rattle.problem.specs.Problems.{Problem, firstGood}
 use Rattle.problem.specs.Inner.{Past}
 use Rattle.problem.proofs.Limits.{never}

@@ -3,7 +3,7 @@ use mathlib.Core.Path.{_≡_}
 use mathlib.Core.Bool.{true, false}
 use Prim.Native.Nat.{ℕ, _+_}
 use Rattle.problem.specs.Problems.{Problem, firstGood}
-use Rattle.problem.specs.order.Inner.{view}
+use Rattle.problem.specs.order.View.{view}
 use Rattle.problem.specs.Inner.{Past}
 use Rattle.solver.specs.declared.Outcome.{Outcome}
 

@@ -10,7 +10,7 @@ ghost use mathlib.Core.Path.{_≡_};
 ghost use mathlib.Core.Bool.{true};
 ghost use Prim.Native.Nat.{_-_, _≤_, _<_};
 ghost use Rattle.circuit.specs.Measure.{cost};
-ghost use Rattle.problem.specs.order.Inner.{view};
+ghost use Rattle.problem.specs.order.View.{view};
 ghost use Rattle.problem.specs.Problems.{Problem, firstGood};
 ghost use Rattle.problem.specs.Inner.{Dearer, Shortest};
 ghost use Rattle.reach_filter.specs.fill.Sieve.{Sieve};

@@ -8,7 +8,7 @@ use walk::node::Task;
 ghost use mathlib.Core.Path.{_≡_};
 ghost use mathlib.Core.Bool.{true};
 ghost use Prim.Native.Nat.{_≤_};
-ghost use Rattle.problem.specs.order.Inner.{view};
+ghost use Rattle.problem.specs.order.View.{view};
 ghost use Rattle.problem.specs.Problems.{Problem};
 ghost use Rattle.problem.specs.Inner.{Past, Dearer, Shortest};
 ghost use Rattle.bounds.specs.sums.Sums.{Marked};

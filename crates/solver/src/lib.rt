@@ -19,7 +19,7 @@ ghost use mathlib.Core.Path.{_≡_};
 ghost use mathlib.Core.Bool.{true, false};
 ghost use mathlib.Core.Option.{none};
 ghost use Prim.Native.Nat.{ℕ, _+_, _-_, _≤_, _<_};
-ghost use Rattle.problem.specs.order.Inner.{view};
+ghost use Rattle.problem.specs.order.View.{view};
 ghost use Rattle.problem.specs.Problems.{Problem, firstGood};
 ghost use Rattle.walk.specs.declared.node.Task.{Task};
 ghost use Rattle.walk.specs.node.States.{Slices, Supplied, Fair, Ready, Posed, Limited, Bounded, Given};

@@ -10,7 +10,9 @@ use walk::node::Task;
 ghost use mathlib.Core.Path.{_≡_};
 ghost use mathlib.Core.List.{List};
 ghost use Prim.Native.Nat.{ℕ, _-_, _≤_, _<_};
+ghost use lib.Dec.{leb};
 ghost use lib.ListN.{length};
+ghost use Rattle.bounds.specs.budget.Afford.{buys};
 ghost use Rattle.problem.specs.Problems.{Problem};
 ghost use Rattle.reach_filter.specs.fill.Sieve.{Sieve};
 ghost use Rattle.walk.specs.declared.node.Task.{Task};
@@ -35,6 +37,7 @@ pub fn least_of(gates: &[u8], prices: &[u8], task: Task) -> Least
 // The most gates of a list that costs no more than the incumbent.
 fn most_cheaper(task: Task, least: Least, held: Best) -> usize
     requires { ⌜ (least .needs ≤ 12) × (least .extra ≤ 255) ⌝ }
+    ensures { λ r. ⌜ r ≡ buys (least .low) (least .extra) (least .needs) (held .cost) (task .«gate_limit») ⌝ }
 {
     budget::buys(
         least.low,
@@ -99,7 +102,9 @@ pub fn widened(
 
 // The radius of the filter for lists of up to `most` gates. It grows with `most`, and is smaller where there are more gates to choose from
 // (`count`), since the time to fill it is a power of their number.
-pub fn radius_for(count: usize, most: usize) -> usize {
+pub fn radius_for(count: usize, most: usize) -> usize
+    ensures { λ r. ⌜ r ≤ 5 ⌝ }
+{
     if count <= 32 {
         if most <= 10 { 4 } else { 5 }
     } else {
@@ -109,7 +114,9 @@ pub fn radius_for(count: usize, most: usize) -> usize {
 
 // How many bits a filter has: fewer where it holds few states, since a small set stays in the processor's cache; enough that most of them
 // stay clear, or it would rule out little.
-pub fn size_for(count: usize, radius: usize) -> u32 {
+pub fn size_for(count: usize, radius: usize) -> u32
+    ensures { λ r. ⌜ (16777216 ≤ r) × (r ≤ 50331648) ⌝ }
+{
     if radius <= 3 {
         return 16777216;
     }
@@ -131,7 +138,9 @@ pub fn turn_for(count: usize, from: usize) -> usize
 }
 
 // No filter: a radius of 0 and no bits, so that it rules out nothing.
-pub fn no_filter() -> Reach {
+pub fn no_filter() -> Reach
+    ensures { λ r. ⌜ (r .radius ≡ 0) × (r .size ≡ 0) ⌝ }
+{
     Reach {
         radius: 0,
         size: 0,
@@ -150,6 +159,7 @@ pub fn early(limit: usize) -> usize
 // Whether no list that could cost less than the incumbent has more than `most` gates: then no filter is worth its time.
 pub fn near(task: Task, least: Least, held: Best, most: usize) -> bool
     requires { ⌜ (least .needs ≤ 12) × (least .extra ≤ 255) ⌝ }
+    ensures { λ r. ⌜ r ≡ leb (buys (least .low) (least .extra) (least .needs) (held .cost) (task .«gate_limit»)) most ⌝ }
 {
     most_cheaper(task, least, held) <= most
 }

@@ -87,7 +87,7 @@ pub fn allowed(n: usize, free: usize, p: u8) -> bool
     if free == 1 {
         layout_ok(n, p)
     } else {
-        if n == 3 { p == 24 } else { p == 27 }
+        if n == 3 { p == 0x18 } else { p == 0x1B }
     }
 }
 

@@ -1,34 +1,16 @@
-// Fills a sheet with the least gate count of every permutation of three wires, and prints how many permutations have each, beside the
-// figures that Shende, Prasad, Markov and Hayes published (IEEE TCAD 2003), and then some cells. Before that it offers two buffers of a
-// wrong length. All bytes are 200 at first, so those that no call has written can be counted.
+// Fills a table of sizes with the least gate count of every permutation of three wires, and prints how many permutations have each, beside
+// the figures that Shende, Prasad, Markov and Hayes published (IEEE TCAD 2003), and then some cells; a last line where the two differ.
+// Before that it offers two buffers of a wrong length. All bytes are 200 at first, so those that no call has written can be counted.
+//
+// - `counts`: cells counted, and the published figures;
+// - `lines`: each line as text.
+mod counts;
+mod lines;
+
 use console::output::say;
 use console::output::say_count;
 use console::output::say_number;
 use sizes::Filled;
-ghost use Prim.Native.Nat.{_≤_, _<_};
-ghost use lib.ListN.{length};
-
-const PUBLISHED: [u64; 9] = [1, 12, 102, 625, 2780, 8921, 17049, 10253, 577];
-
-// The cells that are printed.
-const PLACES: [usize; 16] = [
-    0,
-    1,
-    2,
-    23,
-    24,
-    719,
-    5039,
-    5040,
-    5167,
-    10000,
-    20160,
-    27182,
-    31415,
-    35279,
-    40318,
-    40319,
-];
 
 fn main() {
     let mut room = [200u8; 40321];
@@ -62,12 +44,6 @@ fn tell_front(room: &[u8], n: usize) {
     }
 }
 
-fn tell_sheet(cells: &[u8]) {
-    tell_counts(cells);
-    tell_more(cells);
-    tell_cells(cells);
-}
-
 fn fill(cells: &mut [u8]) {
     say_number(cells.len() as u64);
     match sizes::fill(cells) {
@@ -77,63 +53,26 @@ fn fill(cells: &mut [u8]) {
     say(b"\n");
 }
 
-// 1 where a byte lies from `least` to `most`, and else 0.
-fn one(least: u8, x: u8, most: u8) -> usize
-    ensures { λ n. ⌜ n ≤ 1 ⌝ }
-{
-    if least <= x && x <= most { 1 } else { 0 }
-}
-
-// How many bytes lie from `least` to `most`.
-fn count(cells: &[u8], least: u8, most: u8) -> usize
-    ensures { λ n. ⌜ n ≤ length (now (cells .entry)) ⌝ }
-{
-    let mut n = 0;
-    let mut i = 0;
-    while i < cells.len() {
-        n += one(least, cells[i], most);
-        i += 1;
-    }
-    n
-}
-
 fn tell_untouched(room: &[u8]) {
-    say_count(b"untouched ", count(room, 200, 200) as u64);
-    say(b"\n");
+    let mut out = [0u8; 64];
+    let size = lines::put_number(&mut out, b"untouched ", counts::count(room, 200, 200));
+    say(&out[..size]);
 }
 
-fn tell_counts(cells: &[u8]) {
-    let mut k = 0;
-    while k < 9 {
-        tell_count(cells, k, PUBLISHED[k]);
-        k += 1;
-    }
-}
-
-fn tell_more(cells: &[u8]) {
-    say_count(b"more: ", count(cells, 9, 255) as u64);
-    say(b"\n");
-}
-
-fn tell_count(cells: &[u8], k: usize, published: u64)
-    requires { ⌜ k < 9 ⌝ }
-{
-    say_count(b"gates ", k as u64);
-    say_count(b": ", count(cells, k as u8, k as u8) as u64);
-    say_count(b", published ", published);
-    say(b"\n");
-}
-
-fn tell_cells(cells: &[u8]) {
+// Says the 26 lines of the cells, and whether the figures differ from those published.
+fn tell_sheet(cells: &[u8]) {
     let mut i = 0;
-    while i < 16 {
-        tell_cell(cells, PLACES[i]);
+    while i < 26 {
+        tell_line(cells, i);
         i += 1;
     }
+    if !counts::agrees(cells) {
+        say(b"other figures were published\n");
+    }
 }
 
-fn tell_cell(cells: &[u8], place: usize) {
-    say_count(b"cell ", place as u64);
-    say_count(b": ", logic::at(cells, place) as u64);
-    say(b"\n");
+fn tell_line(cells: &[u8], i: usize) {
+    let mut out = [0u8; 64];
+    let size = lines::put_line(&mut out, cells, i);
+    say(&out[..size]);
 }

@@ -10,7 +10,7 @@ use commands::program;
 use commands::search_files;
 use console::data_lines;
 use console::output;
-use library::judge;
+use library::calls;
 use outcomes::Searched;
 use peephole::Rewritten;
 use printed::rewriting;
@@ -160,7 +160,7 @@ fn dispatch_search(letter: u8, first: &[u8], second: &[u8], third: &[u8]) {
         b's' => say_search(first, second, false, logic::at(second, 0)),
         b'l' => say_line(first),
         b'a' => say_search(first, second, true, logic::at(third, 0)),
-        b'w' => call_lines::say_measured(judge::verify_with(first, second, third)),
+        b'w' => call_lines::say_measured(calls::verify_with(first, second, third)),
         b't' => say_batch(first, second, logic::at(third, 0)),
         b'd' => say_change(sensitivity::price_change(first, second)),
         b'g' => call_lines::say_difference(difference::cost_difference(

@@ -9,30 +9,16 @@ use Rattle.logic.proofs.Chain.{rule-never, and-then-never}
 use Rattle.circuit.specs.run.Run.{forwards}
 use Rattle.table.specs.layouts.Layouts.{allowed}
 use Rattle.table.specs.Rows.{agrees, clean}
-use Rattle.record.specs.JobRules.{jobCode}
 use Rattle.record.specs.job_fields.Jobs.{dataWires, freeLayout, rows}
-use Rattle.record.specs.circuit_rules.CircuitRules.{circuitCode}
 use Rattle.record.specs.circuit_fields.Circuits.{layoutOf, gates}
-use Rattle.record.proofs.circuit_rules.Eleven.{circuit-never}
-use Rattle.record.proofs.Never.{job-never}
+use Rattle.record.proofs.Never.{measure-code-never}
 use Rattle.circuit.specs.declared.measures.Measures.{Measures}
 use Rattle.verify.specs.Calls.{measuresFor, measureOf, verifyRest}
-use Rattle.record.specs.pair_codes.Codes.{sameWires, markFits, circuitCodeFor, measureCode}
+use Rattle.record.specs.pair_codes.Codes.{measureCode}
 use Rattle.verify.specs.Calls.{verifyCode, verifyOf}
 use Rattle.verify.proofs.limits.Within.{limits-never}
 
 module _ (job c : List ℕ) where
-  pub circuit-for-never : circuitCodeFor job c ≡ 11 → ⊥
-  unfolding circuitCodeFor
-  circuit-for-never =
-      and-then-never 11 (circuitCode c) _ (circuit-never c)
-      (rule-never 11 (sameWires job c) 12 _ (λ e. omega arith)
-      (rule-never 11 (markFits job c) 28 0 (λ e. omega arith) (λ e. omega arith)))
-
-  measure-code-never : measureCode job c ≡ 11 → ⊥
-  unfolding measureCode
-  measure-code-never = and-then-never 11 (jobCode job) _ (job-never job) circuit-for-never
-
   pub rest-never : (m : Measures) → verifyRest job c m ≡ 11 → ⊥
   unfolding verifyRest
   rest-never m =
@@ -42,10 +28,10 @@ module _ (job c : List ℕ) where
 
   pub measure-never : measureOf job c ≡ refused 11 → ⊥
   unfolding measureOf
-  measure-never h = measure-code-never (refused-is (measureCode job c) (measuresFor job c) 11 h)
+  measure-never h = measure-code-never job c (refused-is (measureCode job c) (measuresFor job c) 11 h)
 
   pub verify-never : verifyOf job c ≡ refused 11 → ⊥
   unfolding verifyOf verifyCode
   verify-never h =
-      and-then-never 11 (measureCode job c) (verifyRest job c (measuresFor job c)) measure-code-never (rest-never (measuresFor job c))
+      and-then-never 11 (measureCode job c) (verifyRest job c (measuresFor job c)) (measure-code-never job c) (rest-never (measuresFor job c))
       (refused-is (verifyCode job c) (measuresFor job c) 11 h)

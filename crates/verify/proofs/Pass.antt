@@ -1,4 +1,4 @@
--- Demand 2's sentence on the judge: a circuit passes for a job exactly if it has the job's wires, a mark only where the job is a longer
+-- Demand 2's sentence on verifying: a circuit passes for a job exactly if it has the job's wires, a mark only where the job is a longer
 -- one, and an allowed layout, and realizes the table within all three limits.
 use mathlib.Core.Path.{_≡_, sym, ap, _∙_}
 use mathlib.Core.Logic.{_↔_}

@@ -1,4 +1,4 @@
--- Demand 2's words on the judge, field by field: a circuit passes for a job exactly where all of these hold. And document 02's words on
+-- Demand 2's words on verifying, field by field: a circuit passes for a job exactly where all of these hold. And document 02's words on
 -- ready times.
 use mathlib.Core.Path.{_≡_}
 use mathlib.Core.Bool.{true}

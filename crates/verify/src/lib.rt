@@ -1,9 +1,9 @@
 // Circuits run, measured, and verified against a job (document 01: judged). This root has the public calls `measure` and `verify`.
-// - `judging`: the rules that verifying adds to those of measuring.
+// - `rules`: the rules that verifying adds to those of measuring.
 // - `limits`: the job's limits on gates, cost and depth.
 // - `runs`: the public calls `run_forwards` and `run_backwards`.
-pub mod judging;
 pub mod limits;
+pub mod rules;
 pub mod runs;
 
 pub use crate::runs::Ran;
@@ -57,7 +57,7 @@ pub fn verify(job: &[u8], c: &[u8]) -> Measured
         return Measured::Refused(code);
     }
     let m = measures_for(job, c);
-    let rest = judging::verify_rest(job, c, m);
+    let rest = rules::verify_rest(job, c, m);
     if rest != 0 {
         return Measured::Refused(rest);
     }

@@ -25,7 +25,7 @@ ghost use mathlib.Core.List.{[]};
 ghost use mathlib.Core.Option.{none};
 ghost use Prim.Native.Nat.{_+_, _-_, _≤_, _<_};
 ghost use Rattle.circuit.specs.Measure.{cost};
-ghost use Rattle.problem.specs.order.Inner.{view};
+ghost use Rattle.problem.specs.order.View.{view};
 ghost use Rattle.problem.specs.Problems.{Problem};
 ghost use Rattle.problem.specs.Inner.{lookedUnder};
 ghost use Rattle.problem.specs.pruned.Pruned.{triedUnder};

@@ -17,7 +17,7 @@ ghost use lib.ListN.{length};
 ghost use Rattle.circuit.specs.Measure.{cost};
 ghost use Rattle.table.specs.layouts.Layouts.{Width};
 ghost use Rattle.problem.specs.order.Choices.{Choice, attempt, improve};
-ghost use Rattle.problem.specs.order.Inner.{view};
+ghost use Rattle.problem.specs.order.View.{view};
 ghost use Rattle.problem.specs.Problems.{Problem, choiceOf, here, within};
 ghost use Rattle.problem.specs.Inner.{lookedUnder, Enough};
 ghost use Rattle.outputs.specs.Owed.{lost};

@@ -22,7 +22,7 @@ ghost use Rattle.logic.specs.Bit.{bitOf};
 ghost use Rattle.gate.specs.Gates.{targetOf, lawful};
 ghost use Rattle.table.specs.layouts.Layouts.{Width};
 ghost use Rattle.columns.specs.declared.Wanted.{Wanted};
-ghost use Rattle.problem.specs.order.Inner.{view};
+ghost use Rattle.problem.specs.order.View.{view};
 ghost use Rattle.problem.specs.Problems.{Problem};
 ghost use Rattle.problem.specs.Inner.{Enough};
 ghost use Rattle.outputs.specs.Owed.{worth, Controls};

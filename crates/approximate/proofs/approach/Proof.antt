@@ -6,7 +6,7 @@ use Prim.Native.Nat.{ℕ, _+_, _-_, _≤_, _<_}
 use native.Mathlib.Decide.{ℕ-discrete}
 use native.Mathlib.Omega.{arith}
 use Rattle.record.specs.job_fields.Jobs.{dataWires, rows}
-use Rattle.problem.specs.order.Inner.{choice, view}
+use Rattle.problem.specs.order.View.{choice, view}
 use Rattle.problem.proofs.order.Held.{held-some, held-none}
 use Rattle.problem.specs.Problems.{firstGood}
 use Rattle.near_misses.specs.misses.Misses.{closestChoice}

@@ -13,10 +13,11 @@ use lib.Seq.{take-all}
 use Rattle.logic.specs.Rules.{rule}
 use Rattle.logic.specs.Lists.{total}
 use Rattle.logic.specs.Answers.{Answer, refused, answered}
-use Rattle.logic.proofs.Answers.{answered-is, answered-with}
-use Rattle.logic.proofs.Chain.{rule-kept}
+use Rattle.logic.proofs.Answers.{answered-is, answered-with, refused-is}
+use Rattle.logic.proofs.Chain.{rule-kept, rule-never}
 use Rattle.record.specs.job_fields.Jobs.{dataWires, longer}
 use Rattle.outcomes.specs.Outcomes.{Found, searchOf, written}
+use Rattle.outcomes.proofs.Facts.{search-never}
 use Rattle.batch.specs.cutting.Records.{sizeSaid, recordSize, records, recordsOf, countOf, jobAt, allCut}
 use Rattle.batch.specs.cells.Batches.{roomOk, batchCode, batchOf, statusOf, cellsAfter, statusesAfter, answersLeft, statusesLeft, cellAt}
 use Rattle.batch.proofs.cells.Cells.{cells-at, cells-beyond, status-at, statuses-beyond}
@@ -42,6 +43,14 @@ refused-whole jobs answers statuses code h = by-code (ℕ-discrete (batchCode jo
         let z : _≡_ {A = ℕ} 0 1 = cc in
         absurd (omega arith)
     by-code (no n) = let r = refusing jobs answers statuses n in (sym (r .1 .0), sym (r .1 .1))
+
+-- A batch is never refused with 11.
+pub batch-never : (jobs : List ℕ) (answers statuses : ℕ) → batchOf jobs answers statuses ≡ refused 11 → ⊥
+unfolding batchOf batchCode
+batch-never jobs answers statuses h =
+    rule-never 11 (allCut jobs) 26 _ (λ e. omega arith)
+    (rule-never 11 (roomOk jobs answers statuses) 27 0 (λ e. omega arith) (λ e. omega arith))
+    (refused-is (batchCode jobs answers statuses) (countOf jobs) 11 h)
 
 -- A batch that is answered:
 module _ (jobs answers statuses : List ℕ) (count : ℕ) (done : batchOf jobs (length answers) (length statuses) ≡ answered count) where
@@ -86,6 +95,15 @@ module _ (jobs answers statuses : List ℕ) (count : ℕ) (done : batchOf jobs (
       × (getD (statusesLeft jobs answers statuses) i 0 ≡ 0)
   found-job i f h e =
       (cell-alone i h ∙ ap (λ (o : Answer Found). written o (cellAt i answers)) e, status-alone i h ∙ ap statusOf e)
+
+  -- no status is 11;
+  pub never-eleven : (i : ℕ) → i < count → getD (statusesLeft jobs answers statuses) i 0 ≡ 11 → ⊥
+  never-eleven i h e =
+      by-answer (searchOf (jobAt jobs i) 15) (search-never (jobAt jobs i) 15) (sym (status-alone i h) ∙ e)
+    where
+      by-answer : (o : Answer Found) → (o ≡ refused 11 → ⊥) → statusOf o ≡ 11 → ⊥
+      by-answer (refused code) n k = n (ap refused k)
+      by-answer (answered f) n k = omega arith
 
   -- the bytes beyond the last cell and the last status byte are as they were.
   pub beyond : (drop (15 * count) (answersLeft jobs answers statuses) ≡ drop (15 * count) answers)

@@ -10,14 +10,14 @@ use Rattle.logic.specs.Rules.{andThen}
 use Rattle.logic.specs.Answers.{Answer, refused, answered}
 use Rattle.logic.proofs.Chain.{and-then-zero}
 use Rattle.logic.proofs.Prefixes.{told-by}
-use Rattle.record.specs.JobRules.{jobCode}
+use Rattle.record.specs.JobRules.{longestJob, jobCode}
 use Rattle.record.proofs.Long.{long-job}
 use Rattle.outcomes.specs.Outcomes.{Found, reported, searchOf}
 use Rattle.printed.specs.job_line.Lines.{lineOf}
 use Rattle.reports.specs.refusal.Report.{refusedText}
 use Rattle.sensitivity.specs.alike.Alike.{compareCode}
 use Rattle.sensitivity.specs.Calls.{changeBetween, priceChange}
-use Rattle.printed.specs.differences.Compare.{printed, compareText, TellingPair}
+use Rattle.printed.specs.differences.Compare.{compareText, TellingPair, printedChange}
 use Rattle.printed.specs.differences.Inner.{bothText}
 use Rattle.printed.specs.differences.Differences.{bothLines}
 
@@ -28,7 +28,7 @@ when-broken old new code e n = rw (← e, ne-eqb code 0 n)
 
 -- no rule broken
 module _ (old new : List ℕ) where
-  by-answers : (o n : Answer Found) → searchOf old 15 ≡ o → searchOf new 15 ≡ n → printed (changeBetween (reported o) (reported n)) old new ≡ bothText o n
+  by-answers : (o n : Answer Found) → searchOf old 15 ≡ o → searchOf new 15 ≡ n → printedChange (changeBetween (reported o) (reported n)) old new ≡ bothText o n
   unfolding lineOf bothLines
   by-answers (refused code) n e f = refl
   by-answers (answered g) (refused code) e f = refl
@@ -39,17 +39,17 @@ module _ (old new : List ℕ) where
   when-kept z = rw z (by-answers (searchOf old 15) (searchOf new 15) refl refl)
 
 -- a job longer than any sound one
-long-old : (new old : List ℕ) → 30 < length old → compareText old new ≡ refusedText 1
+long-old : (new old : List ℕ) → longestJob < length old → compareText old new ≡ refusedText 1
 unfolding compareCode
 long-old new old h = when-broken old new 1 (rw (long-job old h)) (λ z. omega arith)
 
-long-new : (old new : List ℕ) → 30 < length new → compareText old new ≡ refusedText (andThen (jobCode old) 1)
+long-new : (old new : List ℕ) → longestJob < length new → compareText old new ≡ refusedText (andThen (jobCode old) 1)
 unfolding compareCode
 long-new old new h =
     when-broken old new (andThen (jobCode old) 1) (rw (long-job new h))
     (λ z. let e = and-then-zero (jobCode old) 1 z .1 in omega arith)
 
-pub telling-pair : (room : ℕ) → 30 < room → TellingPair room
+pub telling-pair : (room : ℕ) → longestJob < room → TellingPair room
 telling-pair room h old new =
-    told-by (λ (j : List ℕ). compareText j (take room new)) (refusedText 1) 30 (long-old (take room new)) room h old
-    ∙ told-by (λ (j : List ℕ). compareText old j) (refusedText (andThen (jobCode old) 1)) 30 (long-new old) room h new
+    told-by (λ (j : List ℕ). compareText j (take room new)) (refusedText 1) longestJob (long-old (take room new)) room h old
+    ∙ told-by (λ (j : List ℕ). compareText old j) (refusedText (andThen (jobCode old) 1)) longestJob (long-new old) room h new

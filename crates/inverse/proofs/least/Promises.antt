@@ -1,4 +1,4 @@
--- In the words of the calls: the search answers 14 exactly where the sheet's cell is above the job's gate limit.
+-- In the words of the calls: the search answers 14 exactly where the cell in the table of sizes is above the job's gate limit.
 use mathlib.Core.Path.{_≡_}
 use mathlib.Core.Logic.{_↔_}
 use mathlib.Core.List.{List}

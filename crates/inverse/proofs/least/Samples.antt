@@ -1,29 +1,14 @@
 -- An instance: the exchange of wires 0 and 1 at prices 1, in 20 bytes and in 22.
-use mathlib.Core.Path.{_≡_, refl, subst, sym}
-use mathlib.Core.Bool.{Bool, true, false}
+use mathlib.Core.Path.{refl}
 use mathlib.Core.List.{List, [], _∷_, _++_, map}
-use Prim.Native.Nat.{ℕ, _+_, _<_}
-use native.Mathlib.Omega.{arith}
-use borrow.Author.Tests.{ltb-true, ltb-false}
-use lib.Dec.{ltb}
-use lib.ListN.{length, getD, List·getD-eq-default}
+use Prim.Native.Nat.{ℕ, _+_}
 use Rattle.logic.specs.Lists.{allOf}
-use Rattle.logic.proofs.Fold.{all-at}
 use Rattle.table.specs.Rows.{rowOk}
-use Rattle.record.specs.job_fields.Jobs.{longer, dataWires, ancillas, freeLayout, gateLimit, costLimit, depthLimit, durations, Bytes}
+use Rattle.record.specs.job_fields.Jobs.{longer, dataWires, ancillas, freeLayout, gateLimit, costLimit, depthLimit, durations}
+use Rattle.record.proofs.job_fields.Small.{bytes-of}
 use Rattle.record.specs.JobRules.{jobLengthOk, sizeOk, headOk, limitOk, durationsOk, rowsOk, jobCode}
 use Rattle.parity.specs.Parity.{full, distinct, permutes}
 use Rattle.inverse.specs.least.Counting.{Counting}
-
-abbrev small : ℕ → Bool
-small b = ltb b 256
-
-bytes-of : (l : List ℕ) → allOf small l ≡ true → Bytes l
-bytes-of l h i = by-place (ltb i (length l)) refl
-  where
-    by-place : (t : Bool) → ltb i (length l) ≡ t → getD l i 0 < 256
-    by-place true e = ltb-true (getD l i 0) 256 (all-at small l i 0 h (ltb-true i (length l) e))
-    by-place false e = subst (λ (b : ℕ). b < 256) (sym (List·getD-eq-default l 0 (ltb-false i (length l) e))) (omega arith)
 
 -- three data wires, fixed layout, gate limit 2, limits 65,535; these prices and durations; every bit of the exchange wanted
 exchangeAt : List ℕ → List ℕ

@@ -4,9 +4,9 @@ use Prim.Native.Nat.{_≤_}
 use native.Mathlib.Omega.{arith}
 use borrow.Author.Needs.{needs}
 use lib.ListN.{length}
-use Rattle.library.specs.judge.Calls.{setIn}
-use Rattle.library.proofs.judge.Sound.{sound-library}
-use Rattle.library.proofs.judge.Columns.{tabled, lawful-column}
+use Rattle.library.specs.calls.Calls.{setIn}
+use Rattle.library.proofs.calls.Sound.{sound-library}
+use Rattle.library.proofs.calls.Columns.{tabled, lawful-column}
 use Rattle.library.proofs.first_good.Statement.{statement}
 use Rattle.library.proofs.first_good.Tie as tie
 

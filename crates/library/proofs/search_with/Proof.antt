@@ -6,8 +6,8 @@ use lib.ListN.{length}
 use Rattle.logic.specs.Answers.{Answer}
 use Rattle.outcomes.specs.Outcomes.{Found, searchOver, reported, written}
 use Rattle.outcomes.proofs.Answer.{by-code, told-is}
-use Rattle.library.specs.judge.Calls.{setIn, searchWithCode, searchWith}
-use Rattle.library.proofs.judge.Sound.{Searchable, searchable}
+use Rattle.library.specs.calls.Calls.{setIn, searchWithCode, searchWith}
+use Rattle.library.proofs.calls.Sound.{Searchable, searchable}
 use Rattle.library.proofs.search_with.Statement.{statement}
 use Rattle.library.proofs.search_with.Tie as tie
 

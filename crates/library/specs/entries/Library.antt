@@ -1,4 +1,4 @@
--- A library: a caller's own gates, each with its price and duration (document 02, slip 11: a buyer's gate table). What its bytes mean, and
+-- A library: a caller's own gates, each with its price and duration (document 02, change request 11). What its bytes mean, and
 -- its checks with their refusal codes.
 use mathlib.Core.Bool.{Bool, true, false}
 use mathlib.Core.List.{List, [], _∷_, map}

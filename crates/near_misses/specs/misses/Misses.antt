@@ -1,4 +1,4 @@
--- The wanted bits that a gate list and a layout miss, and the first choice among those that miss fewest (document 02, slip 10).
+-- The wanted bits that a gate list and a layout miss, and the first choice among those that miss fewest (document 02, change request 10).
 use mathlib.Core.Bool.{Bool, not}
 use mathlib.Core.List.{List, [], _∷_}
 use mathlib.Core.Option.{Option}

@@ -14,7 +14,7 @@ returns : tie.Need-returns
 unfolding tableParity
 returns c =
     let job = c .before .before .before .before .before .args .job .now in
-    let odd = c .before .inversions .ensures ∙ ap (λ l. inversions (map valueOf l) % 2) (c .before .before .table .ensures) in
+    let odd = c .before .inversion-parity .ensures ∙ ap (λ l. inversions (map valueOf l) % 2) (c .before .before .table .ensures) in
     c .both .ensures
     ∙ (λ i. both (c .before .before .before .permutes .ensures i) (eqb (odd i) 1))
     ∙ odd-test (permutes job) (eqb (inversions (values job) % 2) 1)

@@ -10,9 +10,9 @@ use Rattle.parity.proofs.table_parity.Statement.{statement}
 use Rattle.parity.proofs.table_parity.Tie as tie
 
 -- the number of inversions modulo 2, as the code has it
-counted : (c : tie.After-inversions)
-    → c .inversions .result ≡ inversions (map valueOf (rows (c .before .before .before .before .before .args .job .now))) % 2
-counted c = c .inversions .ensures ∙ ap (λ l. inversions (map valueOf l) % 2) (c .before .table .ensures)
+counted : (c : tie.After-inversion-parity)
+    → c .inversion-parity .result ≡ inversions (map valueOf (rows (c .before .before .before .before .before .args .job .now))) % 2
+counted c = c .inversion-parity .ensures ∙ ap (λ l. inversions (map valueOf l) % 2) (c .before .table .ensures)
 
 returns : tie.Need-returns
 unfolding tableParity

@@ -8,8 +8,8 @@ use borrow.Author.Tests.{not-true, not-false}
 use borrow.Author.Needs.{needs}
 use lib.ListN.{length, take, drop, length-append, length-drop}
 use lib.Seq.{take-length, take-append-le, length-take-le}
-use Rattle.peephole.specs.windows.Windows.{costAt, better, rewritten}
-use Rattle.peephole.specs.windows.Inner.{Still, spliced}
+use Rattle.peephole.specs.windows.Windows.{costAt, better, rewritten, spliced}
+use Rattle.peephole.specs.windows.Inner.{Still}
 use Rattle.peephole.proofs.windows.Steps.{rewritten-stays}
 use Rattle.peephole.proofs.windows.Scans.{turn-end, turn-cost, turn-still, turn-short}
 use Rattle.peephole.specs.declared.Hit.{Hit}

@@ -7,7 +7,7 @@ use mathlib.Core.Option.{none, some, Option·none-ne-some}
 use Prim.Native.Nat.{ℕ, _+_, _*_, _^_, _≤_, _<_}
 use native.Mathlib.Nat.{add-zero}
 use native.Mathlib.Omega.{arith}
-use borrow.Author.Tests.{ltb-true, ltb-false}
+use borrow.Author.Tests.{ltb-true, ltb-false, lt-ltb}
 use lib.Dec.{ltb, lit≤}
 use lib.ListN.{length}
 use Rattle.logic.specs.Rules.{pick}
@@ -76,7 +76,7 @@ module _ (n : ℕ) (wide : Width n) (p : Prices) (w : List ℕ) where
       λ i. allOf (lawful (pick (k i) 3 2) (v i)) l
 
   -- what stands behind a better answer
-  found-parts : (a : List ℕ) → better n p w ≡ some a
+  pub found-parts : (a : List ℕ) → better n p w ≡ some a
       → (f : Found) × ((searchOf job 15 ≡ answered f) × ((gates (f .bytes) ≡ a) × (f .measures .cost < costAt p w)))
   unfolding better
   found-parts a e = by-answer (searchOf job 15) refl e
@@ -90,6 +90,20 @@ module _ (n : ℕ) (wide : Width n) (p : Prices) (w : List ℕ) where
           → (f : Found) × ((searchOf job 15 ≡ answered f) × ((gates (f .bytes) ≡ a) × (f .measures .cost < costAt p w)))
       by-answer (refused code) q r = absurd (Option·none-ne-some a r)
       by-answer (answered f) q r = (f, (q, by-cost f (ltb (f .measures .cost) (costAt p w)) refl r))
+
+  -- the cost that the search tells is the cost of the gates that it found
+  found-cost : (f : Found) → searchOf job 15 ≡ answered f → f .measures .cost ≡ costAt p (gates (f .bytes))
+  unfolding recordOf circuitBytes measuresOf
+  found-cost f e =
+      let s = found-sound job 15 f e in
+      let t = found-is job (s .0) 15 (s .1) f e in
+      ap (λ (m : Measures). m .cost) (t .1 .1 .1 .1) ∙ priced (t .0) ∙ ap (costAt p) (sym (ap gates (t .1 .1 .1 .0)))
+
+  -- so gates that it found and that cost less are a better answer
+  pub found-better : (f : Found) → searchOf job 15 ≡ answered f → costAt p (gates (f .bytes)) < costAt p w → better n p w ≡ some (gates (f .bytes))
+  unfolding better
+  found-better f e h =
+      ap (cheaperThan (costAt p w)) e ∙ rw (lt-ltb (f .measures .cost) (costAt p w) (rw (found-cost f e) h))
 
   -- a better answer: lawful gates that solve the window's job, no more than it has, at lower cost
   pub record Better (a : List ℕ) : Type 0 where

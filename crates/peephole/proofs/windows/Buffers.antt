@@ -8,7 +8,7 @@ use native.Mathlib.Omega.{arith}
 use lib.ListN.{length, getD, take, drop, set, replicate, length-append, length-drop, length-replicate, getD-replicate, drop-of-length-le}
 use lib.Seq.{sets, sets-eq, paste, paste-suc, take-paste, length-paste-head, take-suc-set, take-all, length-take-le, take-at, drop-append-add, drop-drop, getD-append-add, getD-drop}
 use Rattle.logic.specs.Lists.{numbersFrom}
-use Rattle.peephole.specs.windows.Inner.{spliced}
+use Rattle.peephole.specs.windows.Windows.{spliced}
 
 -- one more number at the end of a range
 made-more : (f : ℕ → ℕ) (n k : ℕ) → map f (numbersFrom k (suc n)) ≡ map f (numbersFrom k n) ++ (f (k + n) ∷ [])

@@ -11,14 +11,15 @@ use lib.Dec.{leb}
 use lib.ListN.{length, take, drop, length-drop, take-append-drop}
 use lib.Seq.{length-take-le, take-append-le, drop-append-le}
 use Rattle.logic.specs.Rules.{pick}
-use Rattle.peephole.specs.windows.Windows.{windowAt, instead, behind, replaced}
-use Rattle.peephole.specs.windows.Inner.{spliced, Still}
+use Rattle.peephole.specs.windows.Windows.{windowAt, instead, behind, replaced, spliced}
+use Rattle.peephole.specs.windows.Inner.{Still}
 
--- where a list is replaced: the window at `place` yields, and its answer stands there instead
+-- where a list is replaced: the window at `place` is the first that yields, and its answer stands there instead
 pub record Replaced (yields : List ℕ → Option (List ℕ)) (k : ℕ) (l m : List ℕ) : Type 0 where
   pub place : ℕ
   pub gates : List ℕ
   pub fits : place + k ≤ length l
+  pub before : Still yields k place l
   pub yielded : yields (windowAt k place l) ≡ some gates
   pub made : m ≡ spliced k place gates l
 
@@ -89,16 +90,21 @@ module _ (yields : List ℕ → Option (List ℕ)) (k : ℕ) where
       ∙ ap (behind g) r
       ∙ ap (λ (n : ℕ). some (g ∷ (take i l ++ (a ++ drop n (g ∷ l))))) (sym e)
 
+  -- a window at the front that does not yield, before others that do not
+  still-behind : (i g : ℕ) (l : List ℕ) → yields (take k (g ∷ l)) ≡ none → Still yields k i l → Still yields k (suc i) (g ∷ l)
+  still-behind i g l y s zero h f = y
+  still-behind i g l y s (suc j) h f = s j (omega arith) (omega arith)
+
   -- and nothing else is
   pub replaced-is : (l m : List ℕ) → replaced yields k l ≡ some m → Replaced yields k l m
   unfolding replaced
   replaced-is [] m e = absurd (Option·none-ne-some _ e)
   replaced-is (g ∷ l) m e = by-length (leb k (length (g ∷ l))) refl e (λ t r. replaced-is l t r)
     where
-      later : (o : Option (List ℕ)) → replaced yields k l ≡ o → behind g o ≡ some m
+      later : yields (take k (g ∷ l)) ≡ none → (o : Option (List ℕ)) → replaced yields k l ≡ o → behind g o ≡ some m
           → ((t : List ℕ) → replaced yields k l ≡ some t → Replaced yields k l t) → Replaced yields k (g ∷ l) m
-      later none r q rest = absurd (Option·none-ne-some _ q)
-      later (some t) r q rest =
+      later y none r q rest = absurd (Option·none-ne-some _ q)
+      later y (some t) r q rest =
           let x = rest t r in
           let z : suc (x .place) + k ≡ suc (x .place + k) = suc-add (x .place) k in
           let same : g ∷ t ≡ m = cc in
@@ -106,6 +112,7 @@ module _ (yields : List ℕ → Option (List ℕ)) (k : ℕ) where
             place = suc (x .place);
             gates = x .gates;
             fits = omega (arith, x .fits);
+            before = still-behind (x .place) g l y (x .before);
             yielded = x .yielded;
             made =
                 sym same ∙ ap (λ (n : List ℕ). g ∷ n) (x .made)
@@ -115,13 +122,14 @@ module _ (yields : List ℕ → Option (List ℕ)) (k : ℕ) where
       here : (o : Option (List ℕ)) → yields (take k (g ∷ l)) ≡ o → k ≤ length (g ∷ l)
           → instead o (drop k (g ∷ l)) (behind g (replaced yields k l)) ≡ some m
           → ((t : List ℕ) → replaced yields k l ≡ some t → Replaced yields k l t) → Replaced yields k (g ∷ l) m
-      here none y h q rest = later (replaced yields k l) refl q rest
+      here none y h q rest = later y (replaced yields k l) refl q rest
       here (some a) y h q rest =
           let same : a ++ drop k (g ∷ l) ≡ m = cc in
           record {
             place = 0;
             gates = a;
             fits = omega arith;
+            before = λ j b f. absurd (omega arith);
             yielded = y;
             made = sym same ∙ ap (λ (n : ℕ). a ++ drop n (g ∷ l)) (sym (zero-add k));
           }

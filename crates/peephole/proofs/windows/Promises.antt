@@ -1,9 +1,9 @@
 -- What a list is promised to become, in a caller's words: for every list that breaks none of the call's rules, at any prices.
 use mathlib.Core.Path.{_≡_}
 use mathlib.Core.Bool.{true}
-use mathlib.Core.Logic.{inl, inr, ⊎-elim}
+use mathlib.Core.Logic.{inl, inr, ⊎-elim, _↔_}
 use mathlib.Core.List.{List}
-use mathlib.Core.Option.{none}
+use mathlib.Core.Option.{none, some}
 use Prim.Native.Nat.{ℕ, _+_, _^_, _≤_, _<_}
 use native.Mathlib.Omega.{arith}
 use borrow.Author.Tests.{eqb-true, leb-true}
@@ -11,16 +11,19 @@ use lib.Dec.{eqb, leb, lit<}
 use lib.ListN.{length}
 use Rattle.logic.specs.Rules.{both, either}
 use Rattle.logic.specs.Lists.{allOf}
-use Rattle.logic.proofs.Chain.{both-parts, either-cases, rule-kept}
+use Rattle.logic.specs.Answers.{refused}
+use Rattle.logic.proofs.Answers.{refused-is}
+use Rattle.logic.proofs.Chain.{both-parts, either-cases, rule-kept, rule-never}
 use Rattle.gate.specs.Gates.{lawful}
 use Rattle.circuit.specs.run.Run.{forwards}
 use Rattle.table.specs.layouts.Layouts.{Width}
 use Rattle.peephole.specs.declared.windows.Prices.{Prices}
 use Rattle.peephole.specs.windows.Windows.{costAt, better, windowAt, replaced, rewritten}
-use Rattle.peephole.specs.windows.Listings.{sizesOk, rewriteCode, ByteEach}
+use Rattle.peephole.specs.windows.Listings.{sizesOk, rewriteCode, rewriteOf, ByteEach}
+use Rattle.peephole.specs.windows.Demand.{Improves, Leftmost}
 use Rattle.peephole.proofs.windows.Leftmost.{short-none, still-none}
-use Rattle.peephole.proofs.windows.Answers.{nothing-better}
-use Rattle.peephole.proofs.windows.Steps.{window-length, all-window, rewritten-ends, rewritten-stays, rewritten-cost, rewritten-length, rewritten-same}
+use Rattle.peephole.proofs.windows.Improving.{nothing-improves, is-leftmost, leftmost-goes, none-goes}
+use Rattle.peephole.proofs.windows.Steps.{rewritten-ends, rewritten-onward, rewritten-stays, rewritten-cost, rewritten-length, rewritten-same}
 
 -- what a code of 0 says of the call
 pub record Sound (n k : ℕ) (l : List ℕ) : Type 0 where
@@ -47,6 +50,15 @@ code-sound n k l h =
     let k₃ = rule-kept (allOf (lawful 2 n) l) 34 0 (lit< tt) (k₂ .1) in
     let s = sizes-sound n k (k₁ .0) in
     record { width = s .0; two = s .1 .0; four = s .1 .1; short = leb-true (length l) 4096 (k₂ .0); kept = k₃ .0 }
+
+-- no list is refused with 11
+pub rewrite-never : (n k : ℕ) (p : Prices) (l : List ℕ) → rewriteOf n k p l ≡ refused 11 → ⊥
+unfolding rewriteOf rewriteCode
+rewrite-never n k p l h =
+    rule-never 11 (sizesOk n k) 32 _ (λ e. omega arith)
+    (rule-never 11 (leb (length l) 4096) 33 _ (λ e. omega arith)
+    (rule-never 11 (allOf (lawful 2 n) l) 34 0 (λ e. omega arith) (λ e. omega arith)))
+    (refused-is (rewriteCode n k l) (length (rewritten n k p l)) 11 h)
 
 module _ (n k : ℕ) (p : Prices) (l : List ℕ) (clear : rewriteCode n k l ≡ 0) where
   abbrev new : List ℕ
@@ -79,16 +91,30 @@ module _ (n k : ℕ) (p : Prices) (l : List ℕ) (clear : rewriteCode n k l ≡ 
   pub once-is-enough : rewritten n k p new ≡ new
   once-is-enough = rewritten-stays n k (known .width) p new it-ends
 
-  -- 4. No window is left for which a list of no more gates at lower cost changes every value alike.
-  pub none-left : ByteEach p → (i : ℕ) → i + k ≤ length new
-      → (e : List ℕ) → allOf (lawful 2 n) e ≡ true → length e ≤ k → ((v : ℕ) → v < 2 ^ n → forwards e v ≡ forwards (windowAt k i new) v)
-      → costAt p (windowAt k i new) ≤ costAt p e
-  none-left small i fits e law short same =
-      let s = known in
-      let long = window-length k i new fits in
-      nothing-better n (s .width) p (windowAt k i new) (all-window k i (lawful 2 n) new still-lawful) (omega arith)
-      (still-none (better n p) k new it-ends (omega arith) i fits) small e law (omega arith) same
+  some-gates : 0 < k
+  some-gates = omega (arith, known .two)
 
-  -- 5. A list shorter than the window stays.
+  module _ (small : ByteEach p) where
+    -- 4. No window is left for which a list of no more gates at lower cost changes every value alike.
+    pub none-left : (i : ℕ) → i + k ≤ length new → (e : List ℕ) → Improves n p (windowAt k i new) e → ⊥
+    none-left i fits =
+        nothing-improves n k (known .width) few p small new still-lawful i fits (still-none (better n p) k new it-ends some-gates i fits)
+
+    -- 5. One step replaces the leftmost window for which there is such a list, by the search's answer for that window's job, and closes
+    -- the gap; where no window has one, the list stays.
+    pub leftmost : (m : List ℕ) → (replaced (better n p) k l ≡ some m) ↔ Leftmost n k p l m
+    leftmost m = (
+      is-leftmost n k (known .width) few p small l (known .kept) m,
+      leftmost-goes n k (known .width) few p small l (known .kept) some-gates m,
+    )
+
+    pub step-by-step : (m : List ℕ) → Leftmost n k p l m → new ≡ rewritten n k p m
+    step-by-step m s = rewritten-onward n k (known .width) p l m (leftmost m .1 s)
+
+    pub stays-without : ((i : ℕ) → i + k ≤ length l → (e : List ℕ) → Improves n p (windowAt k i l) e → ⊥) → new ≡ l
+    stays-without h =
+        rewritten-stays n k (known .width) p l (none-goes n k (known .width) few p small l (known .kept) some-gates h)
+
+  -- 6. A list shorter than the window stays.
   pub short-stays : length l < k → new ≡ l
   short-stays h = rewritten-stays n k (known .width) p l (short-none (better n p) k l h)

@@ -17,8 +17,8 @@ use Rattle.circuit.specs.declared.measures.Measures.{Measures}
 use Rattle.outcomes.specs.Outcomes.{recordOf, Found, searchOf}
 use Rattle.outcomes.proofs.Facts.{found-sound, found-is}
 use Rattle.peephole.specs.declared.windows.Prices.{Prices}
-use Rattle.peephole.specs.windows.Windows.{costAt, windowJob, cheaperThan, better, windowAt, replaced, rewritten}
-use Rattle.peephole.specs.windows.Inner.{spliced, Still}
+use Rattle.peephole.specs.windows.Windows.{costAt, windowJob, cheaperThan, better, windowAt, replaced, rewritten, spliced}
+use Rattle.peephole.specs.windows.Inner.{Still}
 use Rattle.peephole.proofs.windows.Leftmost.{none-still, first-at, still-resumed}
 use Rattle.peephole.proofs.windows.Answers.{better-is, better-short}
 use Rattle.peephole.proofs.windows.Steps.{window-length, falls, rewritten-onward}

@@ -17,8 +17,7 @@ use Rattle.circuit.specs.run.Run.{forwards}
 use Rattle.circuit.proofs.run.Reversal.{stays}
 use Rattle.table.specs.layouts.Layouts.{Width}
 use Rattle.peephole.specs.declared.windows.Prices.{Prices}
-use Rattle.peephole.specs.windows.Windows.{weights, costAt, better, windowAt, replaced, rewritten}
-use Rattle.peephole.specs.windows.Inner.{spliced}
+use Rattle.peephole.specs.windows.Windows.{weights, costAt, better, windowAt, replaced, rewritten, spliced}
 use Rattle.peephole.proofs.windows.Leftmost.{Replaced, replaced-is}
 use Rattle.peephole.proofs.windows.Repeats.{repeated-stays, repeated-keeps, ends, onward}
 use Rattle.peephole.proofs.windows.Answers.{Better, better-is, better-lawful, better-short, better-same}

@@ -1,5 +1,5 @@
--- Long gate lists, a few gates at a time (document 02, slip 12): the job that a window of a list is, when a window yields, and what a list
--- becomes.
+-- Long gate lists, a few gates at a time (document 02, change request 12): the job that a window of a list is, when a window yields, and
+-- what a list becomes.
 use mathlib.Core.List.{List, [], _∷_, _++_, map}
 use mathlib.Core.Option.{Option, none, some}
 use Prim.Native.Nat.{ℕ, zero, suc, _+_, _-_, _*_, _%_, _^_}
@@ -44,6 +44,10 @@ better n p w = cheaperThan (costAt p w) (searchOf (windowJob n p w) 15)
 -- the window of k gates that begins at gate i
 abbrev pub windowAt : ℕ → ℕ → List ℕ → List ℕ
 windowAt k i l = take k (drop i l)
+
+-- "close the gap": the list with the gates a in place of the window of k gates that begins at gate i
+abbrev pub spliced : ℕ → ℕ → List ℕ → List ℕ → List ℕ
+spliced k i a l = take i l ++ (a ++ drop (i + k) l)
 
 -- "Replace it .., close the gap": where the window at the front of a list yields, its answer and then the rest of the list; else what
 -- becomes of the list by a later window, if anything

@@ -40,5 +40,4 @@ both-short m circuit k other h j =
 
 -- a line that was written into a buffer of its own
 pub in-line : (line old new : List ℕ) (size : ℕ) → size ≡ length line → new ≡ inFront line old → take size new ≡ line
-unfolding inFront
 in-line line old new size e w = rw w (take-at line (drop (length line) old) size (sym e))

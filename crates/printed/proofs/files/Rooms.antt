@@ -14,26 +14,26 @@ use Rattle.logic.specs.Answers.{Answer, refused, answered, answerOf}
 use Rattle.logic.specs.Words.{bytes}
 use Rattle.logic.proofs.Chain.{and-then-zero}
 use Rattle.logic.proofs.Prefixes.{cut-length, any-length, told-by}
-use Rattle.record.specs.JobRules.{jobCode}
+use Rattle.record.specs.JobRules.{longestJob, jobCode}
 use Rattle.record.proofs.Long.{long-job}
 use Rattle.record.proofs.circuit_rules.Sound.{long-circuit}
 use Rattle.verify.specs.Calls.{measuresFor, verifyCode, verifyOf, verifyRest}
 use Rattle.record.specs.pair_codes.Codes.{circuitCodeFor, measureCode, searchCode}
 use Rattle.outcomes.specs.Outcomes.{Found, searchOver, searchOf}
 use Rattle.library.specs.entries.Library.{librarySizeOk, libraryCode}
-use Rattle.library.specs.judge.Calls.{jobWithCode, circuitWithCode, measuresIn, restWithCode, verifyWithCode, verifyWith, searchWithCode, searchWith}
+use Rattle.library.specs.calls.Calls.{jobWithCode, circuitWithCode, measuresIn, restWithCode, verifyWithCode, verifyWith, searchWithCode, searchWith}
 use Rattle.revlib.specs.Reading.{starts, readOf}
 use Rattle.printed.specs.job_line.Lines.{lineFor}
 use Rattle.reports.specs.refusal.Report.{reportOf}
-use Rattle.printed.specs.files.Files.{isText, circuitIn, verdict, finding, judged, verifyFile, verifyText, explained, searchText, TellingJob, TellingCircuit, TellingLibrary}
+use Rattle.printed.specs.files.Files.{isText, circuitIn, verdict, finding, verdictOn, verifyFile, verifyText, explained, searchText, TellingJob, TellingCircuit, TellingLibrary}
 
 -- a job of another length
-job-verdict : (circuit : List ℕ) (library : Option (List ℕ)) (job : List ℕ) → 30 < length job → verdict job library circuit ≡ refused 1
+job-verdict : (circuit : List ℕ) (library : Option (List ℕ)) (job : List ℕ) → longestJob < length job → verdict job library circuit ≡ refused 1
 unfolding verdict verifyOf verifyCode measureCode verifyWith verifyWithCode circuitWithCode jobWithCode
 job-verdict circuit none job h = rw (long-job job h)
 job-verdict circuit (some library) job h = rw (long-job job h)
 
-job-finding : (library : Option (List ℕ)) (job : List ℕ) → 30 < length job → finding job library 15 ≡ refused 1
+job-finding : (library : Option (List ℕ)) (job : List ℕ) → longestJob < length job → finding job library 15 ≡ refused 1
 unfolding finding searchOf searchCode searchWith searchWithCode jobWithCode searchOver
 job-finding none job h = rw (long-job job h)
 job-finding (some library) job h = rw (long-job job h)
@@ -44,22 +44,22 @@ said-of : (job other : List ℕ) (library named : Option (List ℕ)) → ((circu
 unfolding verifyText verifyFile
 said-of job other library named same file = ap reportOf (by-circuit (circuitIn file))
   where
-    by-circuit : (o : Answer (List ℕ)) → judged job library o ≡ judged other named o
+    by-circuit : (o : Answer (List ℕ)) → verdictOn job library o ≡ verdictOn other named o
     by-circuit (refused code) = refl
     by-circuit (answered circuit) = same circuit
 
 printed : (o p : Answer Found) → o ≡ p → lineFor o ++ explained o ≡ lineFor p ++ explained p
 printed o p e = rw e
 
-pub telling-job : (room : ℕ) → 30 < room → TellingJob room
+pub telling-job : (room : ℕ) → longestJob < room → TellingJob room
 unfolding searchText
 telling-job room h = record {
   verified = λ job file library.
       said-of (take room job) job library library
-      (λ circuit. told-by (λ (j : List ℕ). verdict j library circuit) (refused 1) 30 (job-verdict circuit library) room h job) file;
+      (λ circuit. told-by (λ (j : List ℕ). verdict j library circuit) (refused 1) longestJob (job-verdict circuit library) room h job) file;
   searched = λ job library.
       printed (finding (take room job) library 15) (finding job library 15)
-      (told-by (λ (j : List ℕ). finding j library 15) (refused 1) 30 (job-finding library) room h job);
+      (told-by (λ (j : List ℕ). finding j library 15) (refused 1) longestJob (job-finding library) room h job);
 }
 
 -- checks of which one fails for sure tell the first that does, and nothing after them counts
@@ -123,14 +123,14 @@ long-text text h = rw (lt-leb (length text) 4096 h)
 
 -- a long file is refused as text and as a record, as its part is
 long-file : (job : List ℕ) (library : Option (List ℕ)) (t : Bool) (file : List ℕ) → 4096 < length file
-    → judged job library (pick t (readOf file 15) (answered file)) ≡ pick t (refused 22) (refused (andThen (codeOf job library) 7))
-long-file job library true file h = ap (judged job library) (long-text file h)
+    → verdictOn job library (pick t (readOf file 15) (answered file)) ≡ pick t (refused 22) (refused (andThen (codeOf job library) 7))
+long-file job library true file h = ap (verdictOn job library) (long-text file h)
 long-file job library false file h = circuit-verdict job library file (omega arith)
 
 pub telling-circuit : (room : ℕ) → 4096 < room → TellingCircuit room
 unfolding verifyText verifyFile circuitIn isText
 telling-circuit room h job file library =
-    any-length (λ (f : List ℕ). reportOf (judged job library (circuitIn f))) room
+    any-length (λ (f : List ℕ). reportOf (verdictOn job library (circuitIn f))) room
     (λ f k.
     ap reportOf (rw (in-part (bytes ".version") f room (omega arith))
     (long-file job library (isText f) (take room f) (rw (cut-length room f k) h) ∙ sym (long-file job library (isText f) f (omega arith))))) file

@@ -18,7 +18,7 @@ use Rattle.peephole.specs.declared.windows.Prices.{Prices}
 use Rattle.peephole.specs.windows.Windows.{costAt, rewritten}
 use Rattle.peephole.specs.windows.Listings.{sizesOk, rewriteCode, rewriteOf, cleared, listLeft}
 use Rattle.peephole.proofs.windows.Promises.{code-sound, no-longer}
-use Rattle.printed.specs.rewriting.Rewriting.{millions, countLine, rewrittenText, wiresIn, windowIn, pricesIn, printed, rewriteText, TellingList}
+use Rattle.printed.specs.rewriting.Rewriting.{millions, countLine, rewrittenText, wiresIn, windowIn, pricesIn, rewriteText, TellingList, printedRewriting}
 
 pub millions-short : (n : ℕ) → length (millions n) ≤ 7
 unfolding millions
@@ -45,7 +45,7 @@ module _ (head l : List ℕ) where
 
   pub text-refused : (code : ℕ) → refused code ≡ rewriteOf n k p l → rewriteText head l ≡ refusedText code
   unfolding rewriteText
-  text-refused code e = ap (λ a. printed a p l (rewritten n k p l)) (sym e)
+  text-refused code e = ap (λ a. printedRewriting a p l (rewritten n k p l)) (sym e)
 
   -- the gates that are left are the rewritten list
   module _ (count : ℕ) (x : List ℕ) (e : answered count ≡ rewriteOf n k p l) (left : x ≡ listLeft n k p l) where
@@ -73,7 +73,7 @@ module _ (head l : List ℕ) where
 
     pub text-rewritten : rewriteText head l ≡ rewrittenText (length l) (costAt p l) p (take count x)
     unfolding rewriteText
-    text-rewritten = ap (λ a. printed a p l (rewritten n k p l)) (sym e) ∙ ap (rewrittenText (length l) (costAt p l) p) (sym left-is)
+    text-rewritten = ap (λ a. printedRewriting a p l (rewritten n k p l)) (sym e) ∙ ap (rewrittenText (length l) (costAt p l) p) (sym left-is)
 
 -- a list with more gates than a list may have
 long-list : (head l : List ℕ) → 4096 < length l → rewriteText head l ≡ refusedText (rule (sizesOk (wiresIn head) (windowIn head)) 32 33)

@@ -11,13 +11,13 @@ use Rattle.sensitivity.specs.Calls.{priceChange}
 use Rattle.printed.specs.differences.Differences.{changeLine}
 
 -- the difference, and the line that `main` prints for each job; or a refusal and what it means
-abbrev pub printed : Answer ℤ → List ℕ → List ℕ → List ℕ
-printed (refused code) old new = refusedText code
-printed (answered d) old new = changeLine d ++ (lineOf old ++ lineOf new)
+abbrev pub printedChange : Answer ℤ → List ℕ → List ℕ → List ℕ
+printedChange (refused code) old new = refusedText code
+printedChange (answered d) old new = changeLine d ++ (lineOf old ++ lineOf new)
 
 -- `gazbolk compare`
 unfoldable pub compareText : List ℕ → List ℕ → List ℕ
-compareText old new = printed (priceChange old new) old new
+compareText old new = printedChange (priceChange old new) old new
 
 -- the first `room` bytes of either job decide what is printed, however long they are
 abbrev pub TellingPair : ℕ → Type 0

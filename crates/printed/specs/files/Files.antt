@@ -11,7 +11,7 @@ use Rattle.logic.specs.Words.{bytes}
 use Rattle.circuit.specs.declared.measures.Measures.{Measures}
 use Rattle.verify.specs.Calls.{verifyOf}
 use Rattle.outcomes.specs.Outcomes.{Found, searchOf}
-use Rattle.library.specs.judge.Calls.{verifyWith, searchWith}
+use Rattle.library.specs.calls.Calls.{verifyWith, searchWith}
 use Rattle.revlib.specs.Reading.{starts, readOf}
 use Rattle.text.specs.pieces.Text.{lineFeed}
 use Rattle.printed.specs.job_line.Lines.{lineFor}
@@ -42,13 +42,13 @@ finding job (some library) room = searchWith job library room
 
 -- "Buyers send RevLib `.real` text and want it judged": a text that gives no circuit is refused, with its own number, before the job is
 -- looked at
-abbrev pub judged : List ℕ → Option (List ℕ) → Answer (List ℕ) → Answer Measures
-judged job library (refused code) = refused code
-judged job library (answered circuit) = verdict job library circuit
+abbrev pub verdictOn : List ℕ → Option (List ℕ) → Answer (List ℕ) → Answer Measures
+verdictOn job library (refused code) = refused code
+verdictOn job library (answered circuit) = verdict job library circuit
 
 -- the verdict on the circuit of a file
 unfoldable pub verifyFile : List ℕ → Option (List ℕ) → List ℕ → Answer Measures
-verifyFile job library file = judged job library (circuitIn file)
+verifyFile job library file = verdictOn job library (circuitIn file)
 
 -- `gazbolk verify`
 unfoldable pub verifyText : List ℕ → Option (List ℕ) → List ℕ → List ℕ

@@ -14,14 +14,14 @@ unfoldable pub missesLine : ℕ → List ℕ
 missesLine k = bytes "misses " ++ (decimal k ++ lineFeed)
 
 -- how many wanted bits the circuit misses, and its line as `main` prints one; or a refusal and what it means
-abbrev pub printed : Answer Close → List ℕ
-printed (refused code) = refusedText code
-printed (answered c) = missesLine (c .misses) ++ foundLine (c .circuit .measures) (c .circuit .bytes)
+abbrev pub printedClosest : Answer Close → List ℕ
+printedClosest (refused code) = refusedText code
+printedClosest (answered c) = missesLine (c .misses) ++ foundLine (c .circuit .measures) (c .circuit .bytes)
 
 -- `gazbolk closest`
 unfoldable pub closestText : List ℕ → List ℕ
-closestText job = printed (closestOf job 15)
+closestText job = printedClosest (closestOf job 15)
 
 -- the first `room` bytes of a job decide what is printed, however long it is
-abbrev pub TellingJob : ℕ → Type 0
-TellingJob room = (job : List ℕ) → closestText (take room job) ≡ closestText job
+abbrev pub TellingClosest : ℕ → Type 0
+TellingClosest room = (job : List ℕ) → closestText (take room job) ≡ closestText job

@@ -35,14 +35,14 @@ abbrev pub pricesIn : List ℕ → Prices
 pricesIn head = record { not = getD head 2 0; cnot = getD head 3 0; toffoli = getD head 4 0 }
 
 -- how many gates both lists have and what they cost, and the new list; or a refusal and what it means
-abbrev pub printed : Answer ℕ → Prices → List ℕ → List ℕ → List ℕ
-printed (refused code) p old new = refusedText code
-printed (answered count) p old new = rewrittenText (length old) (costAt p old) p new
+abbrev pub printedRewriting : Answer ℕ → Prices → List ℕ → List ℕ → List ℕ
+printedRewriting (refused code) p old new = refusedText code
+printedRewriting (answered count) p old new = rewrittenText (length old) (costAt p old) p new
 
 -- `gazbolk rewrite`
 unfoldable pub rewriteText : List ℕ → List ℕ → List ℕ
 rewriteText head l =
-    printed (rewriteOf (wiresIn head) (windowIn head) (pricesIn head) l) (pricesIn head) l
+    printedRewriting (rewriteOf (wiresIn head) (windowIn head) (pricesIn head) l) (pricesIn head) l
     (rewritten (wiresIn head) (windowIn head) (pricesIn head) l)
 
 -- the first `room` gates decide what is printed, however many there are

@@ -12,7 +12,8 @@ use lib.ListN.{length, take, drop, getD, drop-of-length-le}
 use lib.Seq.{drop-cons, length-take-le, getD-take}
 use Rattle.problem.specs.order.Choices.{lexLess, before, keep}
 use Rattle.problem.specs.declared.order.Best.{Best}
-use Rattle.problem.specs.order.Inner.{ordered, choice, view}
+use Rattle.problem.specs.order.Inner.{ordered}
+use Rattle.problem.specs.order.View.{choice, view}
 
 module _ (a b : List ℕ) (m n i : ℕ) (hm : m ≤ length a) (hn : n ≤ length b) where
   lex-turn : i < m → i < n

@@ -7,7 +7,7 @@ use Prim.Native.Nat.{_≤_, _<_}
 use native.Mathlib.Nat.{eq-or-lt-of-le}
 use Rattle.problem.specs.declared.order.Best.{Best}
 use Rattle.problem.specs.order.Choices.{Choice, before, attempt}
-use Rattle.problem.specs.order.Inner.{choice, view}
+use Rattle.problem.specs.order.View.{choice, view}
 use Rattle.problem.proofs.order.Order.{lex-gt, lex-eq, by-cost, by-gates}
 use Rattle.problem.proofs.order.First.{attempt-after}
 

@@ -11,12 +11,12 @@ use lib.ListN.{length}
 use Rattle.logic.specs.Rules.{rule}
 use Rattle.logic.proofs.Chain.{rule-never}
 use Rattle.record.specs.circuit_rules.CircuitRules.{circuitLengthOk, shapeOk, layoutInOrder, countOk, gatesOk, circuitCode}
-use Rattle.record.specs.circuit_fields.Circuits.{countOf}
+use Rattle.record.specs.circuit_fields.Circuits.{countByte}
 use Rattle.record.proofs.circuit_rules.Sound.{short-enough}
 
 -- "Is the count at most 12? If not, 11.": the rule that was removed
 abbrev countSmall : List ℕ → Bool
-countSmall c = leb (countOf c) 12
+countSmall c = leb (countByte c) 12
 
 -- a circuit's rules as document 01 lists them, 11 among them
 unfoldable pub listedCode : List ℕ → ℕ
@@ -30,7 +30,7 @@ listedCode c =
 
 -- lengths and the count byte rule it out
 few : (c : List ℕ) → circuitLengthOk c ≡ true → countOk c ≡ true → countSmall c ≡ true
-few c h k = le-leb (countOf c) 12 (omega (arith, short-enough c h, eqb-true (countOf c) (length c - 3) k))
+few c h k = le-leb (countByte c) 12 (omega (arith, short-enough c h, eqb-true (countByte c) (length c - 3) k))
 
 -- a rule that the first and the fourth imply can be left out
 left-out : (a b d e f g : Bool) → (a ≡ true → e ≡ true → f ≡ true)

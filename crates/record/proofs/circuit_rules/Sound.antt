@@ -8,7 +8,7 @@ use native.Mathlib.Omega.{arith}
 use borrow.Author.Tests.{eqb-true, leb-true, lt-leb}
 use lib.Dec.{eqb, leb, lit<}
 use lib.ListN.{length, getD, length-drop}
-use Rattle.logic.specs.Rules.{both, either, rule}
+use Rattle.logic.specs.Rules.{both, either}
 use Rattle.logic.specs.Lists.{allOf}
 use Rattle.logic.proofs.Chain.{both-left, both-right, either-cases, rule-kept, both-second}
 use Rattle.gate.specs.Gates.{lawful}
@@ -17,7 +17,6 @@ use Rattle.table.specs.layouts.Layouts.{Width, layoutOk}
 use Rattle.record.specs.job_fields.Jobs.{dataWires, ancillas, wires}
 use Rattle.record.specs.circuit_rules.CircuitRules.{circuitLengthOk, shapeOk, layoutInOrder, countOk, gatesOk, circuitCode}
 use Rattle.record.specs.circuit_fields.Circuits.{marked, controlsOf, layoutOf, gates}
-use Rattle.record.specs.circuit_rules.Inner.{circuitRest}
 use Rattle.record.proofs.job_fields.Widths.{two-or-three, three-to-five}
 
 pub record SoundCircuit (c : List ℕ) : Type 0 where
@@ -44,10 +43,10 @@ module _ (c : List ℕ) where
       (either-cases (eqb (dataWires c) 3) (eqb (dataWires c) 4) (both-left d (both (leb (ancillas c) 1) (eqb (getD c 0 0 / 2 % 4) 0)) h))
 
   pub sound-circuit : circuitCode c ≡ 0 → SoundCircuit c
-  unfolding circuitCode circuitRest shapeOk
+  unfolding circuitCode shapeOk
   sound-circuit h =
-      let k₁ = rule-kept (circuitLengthOk c) 7 (rule (shapeOk c) 8 (circuitRest c)) (lit< tt) h in
-      let k₂ = rule-kept (shapeOk c) 8 (circuitRest c) (lit< tt) (k₁ .1) in
+      let k₁ = rule-kept (circuitLengthOk c) 7 _ (lit< tt) h in
+      let k₂ = rule-kept (shapeOk c) 8 _ (lit< tt) (k₁ .1) in
       let k₃ = rule-kept (layoutInOrder c) 9 _ (lit< tt) (k₂ .1) in
       let k₄ = rule-kept (countOk c) 10 _ (lit< tt) (k₃ .1) in
       let k₅ = rule-kept (gatesOk c) 21 0 (lit< tt) (k₄ .1) in

@@ -15,7 +15,7 @@ use Rattle.logic.proofs.Chain.{both-right, both-true, either-first, either-seco
 use Rattle.gate.specs.Gates.{lawful}
 use Rattle.table.specs.layouts.Layouts.{Width, layoutOk}
 use Rattle.record.specs.job_fields.Jobs.{dataWires, ancillas, wires}
-use Rattle.record.specs.circuit_fields.Circuits.{marked, controlsOf, layoutOf, countOf, gates, headByte, circuitBytes}
+use Rattle.record.specs.circuit_fields.Circuits.{marked, controlsOf, layoutOf, countByte, gates, headByte, circuitBytes}
 use Rattle.record.specs.circuit_rules.CircuitRules.{circuitLengthOk, shapeOk, layoutInOrder, countOk, circuitCode}
 use Rattle.record.proofs.circuit_rules.Sound.{long-enough}
 
@@ -87,11 +87,11 @@ module _ (n m : ℕ) (mark : Bool) (p : ℕ) (l : List ℕ) (spare : m ≤ 1) wh
       layout-kept : layoutOk (dataWires bytes) (layoutOf bytes) ≡ true
       layout-kept = ap₂ layoutOk same-data same-layout ∙ laid-out
 
-      counted : countOf bytes ≡ length l
-      unfolding circuitBytes countOf
+      counted : countByte bytes ≡ length l
+      unfolding circuitBytes countByte
       counted = refl
 
-      count-kept : countOf bytes ≡ length bytes - 3
+      count-kept : countByte bytes ≡ length bytes - 3
       unfolding circuitBytes
       count-kept = counted ∙ omega arith
 
@@ -106,7 +106,7 @@ module _ (n m : ℕ) (mark : Bool) (p : ℕ) (l : List ℕ) (spare : m ≤ 1) wh
             length-kept,
             shape-kept,
             layout-kept,
-            eq-eqb (countOf bytes) (length bytes - 3) count-kept,
+            eq-eqb (countByte bytes) (length bytes - 3) count-kept,
             gates-kept,
           )
 
@@ -135,10 +135,10 @@ module _ (c : List ℕ) (sound : circuitCode c ≡ 0) where
   mark-bit (suc (suc x)) h = absurd (omega arith)
 
   pub rebuilt : circuitBytes (dataWires c) (ancillas c) (marked c) (layoutOf c) (gates c) ≡ c
-  unfolding circuitBytes dataWires ancillas marked layoutOf countOf
+  unfolding circuitBytes dataWires ancillas marked layoutOf countByte
   rebuilt =
       let l = long-enough c (in-order .0) in
-      let n : length (gates c) ≡ getD c 2 0 = omega (arith, length-drop 3 c, eqb-true (countOf c) (length c - 3) (in-order .1 .1)) in
+      let n : length (gates c) ≡ getD c 2 0 = omega (arith, length-drop 3 c, eqb-true (countByte c) (length c - 3) (in-order .1 .1)) in
       let b : 32 * (getD c 0 0 / 32) + 8 * (getD c 0 0 / 8 % 4) + bit (eqb (getD c 0 0 % 2) 1) ≡ getD c 0 0
       = ap (λ (x : ℕ). 32 * (getD c 0 0 / 32) + 8 * (getD c 0 0 / 8 % 4) + x) (mark-bit (getD c 0 0 % 2) (omega arith)) ∙ omega (arith, zeros) in
       sym (drop-cons c 0 0 (omega arith) ∙ ap (λ (r : List ℕ). getD c 0 0 ∷ r)

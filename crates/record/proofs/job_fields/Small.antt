@@ -1,11 +1,15 @@
--- Bounds that hold because a job consists of bytes: on one price or duration, and on their sum over a gate list.
+-- Bounds that hold because a job consists of bytes: on one price or duration, and on their sum over a gate list; and a test for bytes.
+use mathlib.Core.Path.{_≡_, refl, sym, subst}
 use mathlib.Core.Bool.{Bool, true, false}
 use mathlib.Core.List.{List, [], _∷_}
-use Prim.Native.Nat.{ℕ, _+_, _*_, _≤_}
+use Prim.Native.Nat.{ℕ, _+_, _*_, _≤_, _<_}
 use native.Mathlib.Omega.{arith}
-use lib.ListN.{length, getD}
+use borrow.Author.Tests.{ltb-true, ltb-false}
+use lib.Dec.{ltb}
+use lib.ListN.{length, getD, List·getD-eq-default}
 use Rattle.logic.specs.Rules.{pick}
-use Rattle.logic.specs.Lists.{total}
+use Rattle.logic.specs.Lists.{allOf, total}
+use Rattle.logic.proofs.Fold.{all-at}
 use Rattle.gate.specs.declared.Kind.{Kind}
 use Rattle.gate.specs.declared.Kind.the-variants.{Not, Cnot, Toffoli, Cccnot}
 use Rattle.gate.specs.Gates.{gateOf}
@@ -31,3 +35,14 @@ pub total-small : (f : ℕ → ℕ) → ((b : ℕ) → f b ≤ 255) → (l : Lis
 unfolding total
 total-small f h [] = omega arith
 total-small f h (b ∷ l) = omega (arith, h b, total-small f h l)
+
+abbrev pub isByte : ℕ → Bool
+isByte b = ltb b 256
+
+-- a list whose every number is tested to be a byte, as those of a sample are
+pub bytes-of : (l : List ℕ) → allOf isByte l ≡ true → Bytes l
+bytes-of l h i = by-place (ltb i (length l)) refl
+  where
+    by-place : (t : Bool) → ltb i (length l) ≡ t → getD l i 0 < 256
+    by-place true e = ltb-true (getD l i 0) 256 (all-at isByte l i 0 h (ltb-true i (length l) e))
+    by-place false e = subst (λ (b : ℕ). b < 256) (sym (List·getD-eq-default l 0 (ltb-false i (length l) e))) (omega arith)

@@ -9,8 +9,8 @@ use Rattle.logic.specs.Rules.{pick, bit}
 unfoldable pub layoutOf : List ℕ → ℕ
 layoutOf c = getD c 1 0
 
-unfoldable pub countOf : List ℕ → ℕ
-countOf c = getD c 2 0
+unfoldable pub countByte : List ℕ → ℕ
+countByte c = getD c 2 0
 
 abbrev pub gates : List ℕ → List ℕ
 gates c = drop 3 c

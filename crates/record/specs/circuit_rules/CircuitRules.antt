@@ -9,7 +9,7 @@ use Rattle.logic.specs.Lists.{allOf}
 use Rattle.gate.specs.Gates.{lawful}
 use Rattle.table.specs.layouts.Layouts.{layoutOk}
 use Rattle.record.specs.job_fields.Jobs.{dataWires, ancillas, wires}
-use Rattle.record.specs.circuit_fields.Circuits.{layoutOf, countOf, gates, controlsOf}
+use Rattle.record.specs.circuit_fields.Circuits.{layoutOf, countByte, gates, controlsOf}
 
 -- "Is it 3 to 15 bytes long? If not, 7."
 unfoldable pub circuitLengthOk : List ℕ → Bool
@@ -25,13 +25,13 @@ layoutInOrder c = layoutOk (dataWires c) (layoutOf c)
 
 -- "Is the count byte the length less 3? If not, 10."
 abbrev pub countOk : List ℕ → Bool
-countOk c = eqb (countOf c) (length c - 3)
+countOk c = eqb (countByte c) (length c - 3)
 
 -- "Is each gate lawful for W? If not, 21."
 abbrev pub gatesOk : List ℕ → Bool
 gatesOk c = allOf (lawful (controlsOf c) (wires c)) (gates c)
 
--- the code of the first rule broken, or 0; the number 11 is reserved and unused (document 02, slip 9)
+-- the code of the first rule broken, or 0; the number 11 is reserved and unused (document 02, change request 9)
 unfoldable pub circuitCode : List ℕ → ℕ
 circuitCode c =
     rule (circuitLengthOk c) 7

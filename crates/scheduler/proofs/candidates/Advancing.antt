@@ -7,7 +7,8 @@ use native.Mathlib.Omega.{arith}
 use lib.ListN.{length, take, replicate}
 use Rattle.problem.specs.Problems.{Problem}
 use Rattle.scheduler.specs.declared.candidates.Place.{Place}
-use Rattle.scheduler.specs.candidates.Inner.{over, bump, left, digitsAt, afterAt}
+use Rattle.scheduler.specs.candidates.Inner.{over, bump, afterAt}
+use Rattle.scheduler.specs.candidates.Left.{left, digitsAt}
 use Rattle.scheduler.proofs.candidates.Odometer.{next-layout, next-list, next-length, at-end}
 
 take-replicate : (n m : ℕ) → n ≤ m → take n (replicate {A = ℕ} m 0) ≡ replicate n 0

@@ -14,7 +14,8 @@ use Rattle.logic.proofs.Chain.{both-parts}
 use Rattle.problem.specs.order.Choices.{Choice, lists}
 use Rattle.problem.specs.Problems.{Problem, choiceOf, here}
 use Rattle.scheduler.specs.candidates.Candidates.{ofLength, candidates}
-use Rattle.scheduler.specs.candidates.Inner.{atLast, over, digit, bump, chosen, listsAfter, current, after, left}
+use Rattle.scheduler.specs.candidates.Inner.{atLast, over, digit, bump}
+use Rattle.scheduler.specs.candidates.Left.{chosen, listsAfter, current, after, left}
 
 -- as many digits as before, each by itself
 pub length-bump : (n : ℕ) (ds : List ℕ) → length (bump n ds) ≡ length ds

@@ -1,9 +1,9 @@
--- What planners are promised (document 02): how many turns a job takes, its answer, and what others have to do with it.
+-- What a caller is promised (document 02): how many turns a job takes, its answer, and what others have to do with it.
 use mathlib.Core.Path.{_≡_, refl, sym, ap, _∙_, subst}
 use mathlib.Core.Bool.{Bool, true, false, true≢false}
 use mathlib.Core.Logic.{_⊎_, inl, inr, ⊎-elim}
 use mathlib.Core.List.{List}
-use mathlib.Core.Option.{Option, none, some}
+use mathlib.Core.Option.{Option, some}
 use Prim.Native.Nat.{ℕ, _+_, _*_, _≤_, _<_}
 use native.Mathlib.Decide.{ℕ-discrete}
 use native.Mathlib.Omega.{arith}
@@ -14,14 +14,14 @@ use Rattle.logic.specs.Answers.{refused, answered}
 use Rattle.logic.proofs.Chain.{rule-never}
 use Rattle.record.specs.JobRules.{jobCode}
 use Rattle.problem.specs.order.Choices.{Choice}
-use Rattle.outcomes.specs.Outcomes.{problemOf, Found, searchOver, searchOf}
+use Rattle.outcomes.specs.Outcomes.{problemOf, Found, reported, searchOver, searchOf}
 use Rattle.record.specs.pair_codes.Codes.{searchCode}
 use Rattle.scheduler.specs.candidates.Candidates.{candidates}
 use Rattle.scheduler.proofs.candidates.Alone.{as-alone}
-use Rattle.scheduler.specs.slot.Slots.{Slot, empty, working, finished, isEmpty, isWorking, isFinished, begun, resultOf}
+use Rattle.scheduler.specs.slot.Slots.{Slot, empty, finished, isEmpty, isWorking, isFinished, begun}
 use Rattle.scheduler.specs.states.States.{State, slotAt, withSlot, postCode, postOf, afterPost, servedBy, afterServing, afterTurn, collectCode, collectOf, afterCollect}
-use Rattle.scheduler.proofs.states.Rules.{post-parts, post-refused, post-accepted, collect-parts, collect-refused, collect-done}
-use Rattle.scheduler.specs.fairness.Histories.{Call, posting, turning, collecting, afterCall, Reachable, ownOf, turnOf, Since, countOf, workingAfter, finishedWith, Standing}
+use Rattle.scheduler.proofs.states.Rules.{answered-never, only-none, post-parts, post-refused, post-accepted, collect-parts, collect-refused, collect-done}
+use Rattle.scheduler.specs.fairness.Histories.{Call, posting, turning, collecting, afterCall, Reachable, ownOf, turnOf, Since, candidateCount, workingAfter, finishedWith, Standing}
 use Rattle.scheduler.proofs.fairness.Steps.{Eight, eight, Became, filled, vacated, became, StandingIn, stepped, starting}
 use Rattle.scheduler.proofs.fairness.Ahead.{ahead, ahead-few, ahead-own, served-found}
 
@@ -36,12 +36,12 @@ since-sound {i = i} {job = job} (Since.at-posting t r k e z w) = let p = post-pa
 since-sound (Since.by-later t c m n h e full o a) = since-sound h
 
 -- a slot that stands so is not empty
-standing-full : (job : List ℕ) (l : List Choice) (own : ℕ) (slot : Slot) → StandingIn job l own slot → isEmpty slot ≡ false
+pub standing-full : (job : List ℕ) (l : List Choice) (own : ℕ) (slot : Slot) → StandingIn job l own slot → isEmpty slot ≡ false
 standing-full job l own slot (inl p) = ap isEmpty (p .1)
 standing-full job l own slot (inr p) = ap isEmpty (p .1)
 
 -- one call more
-onwards : (i : ℕ) (job : List ℕ) (t s : State) (m own : ℕ) (l : List Choice) → Became t s i own → StandingIn job l m (slotAt t i) → StandingIn job l (m + own) (slotAt s i)
+pub onwards : (i : ℕ) (job : List ℕ) (t s : State) (m own : ℕ) (l : List Choice) → Became t s i own → StandingIn job l m (slotAt t i) → StandingIn job l (m + own) (slotAt s i)
 onwards i job t s m own l (Became.stayed e z) h =
     let q : m ≡ m + own = omega arith in
     subst (λ (n : ℕ). StandingIn job l n (slotAt s i)) q (subst (StandingIn job l m) (sym e) h)
@@ -49,7 +49,7 @@ onwards i job t s m own l (Became.had-turn w e z) h =
     let q : m + 1 ≡ m + own = omega arith in
     subst (λ (n : ℕ). StandingIn job l n (slotAt s i)) q (subst (StandingIn job l (m + 1)) (sym e) (stepped job l m (slotAt t i) h w))
 
-stands : {i : ℕ} {job : List ℕ} {s : State} {own all : ℕ} → Since i job s own all → StandingIn job (candidates (problemOf job)) own (slotAt s i)
+pub stands : {i : ℕ} {job : List ℕ} {s : State} {own all : ℕ} → Since i job s own all → StandingIn job (candidates (problemOf job)) own (slotAt s i)
 unfolding begun
 stands {i = i} {job = job} {s = s} (Since.at-posting t r k e z w) =
     subst (λ (n : ℕ). StandingIn job (candidates (problemOf job)) n (slotAt s i)) (sym z)
@@ -118,19 +118,19 @@ waits {i = i} {job = job} {s = s} {own = own} {all = all} (Since.by-later t c m 
     was-working (Became.had-turn v e z) w = v
 
 -- 2. "and at most 8 × N overall, counted from its posting": while it works, fewer turns have passed
-pub all-turns : {i : ℕ} {job : List ℕ} {s : State} {own all : ℕ} → Since i job s own all → isWorking (slotAt s i) ≡ true → all < 8 * countOf job
+pub all-turns : {i : ℕ} {job : List ℕ} {s : State} {own all : ℕ} → Since i job s own all → isWorking (slotAt s i) ≡ true → all < 8 * candidateCount job
 all-turns {i = i} {job = job} {s = s} {own = own} h w =
     ⊎-elim
-    (λ (p : (own < countOf job) × (slotAt s i ≡ workingAfter job own)). let k = p .0 in let q = waits h w in omega arith)
-    (λ (p : (own ≡ countOf job) × (slotAt s i ≡ finishedWith job)). absurd (true≢false (sym w ∙ ap isWorking (p .1))))
+    (λ (p : (own < candidateCount job) × (slotAt s i ≡ workingAfter job own)). let k = p .0 in let q = waits h w in omega arith)
+    (λ (p : (own ≡ candidateCount job) × (slotAt s i ≡ finishedWith job)). absurd (true≢false (sym w ∙ ap isWorking (p .1))))
     (own-turns h)
 
 -- so after so many turns it is finished
-pub in-time : {i : ℕ} {job : List ℕ} {s : State} {own all : ℕ} → Since i job s own all → 8 * countOf job ≤ all → slotAt s i ≡ finishedWith job
+pub in-time : {i : ℕ} {job : List ℕ} {s : State} {own all : ℕ} → Since i job s own all → 8 * candidateCount job ≤ all → slotAt s i ≡ finishedWith job
 in-time {i = i} {job = job} {s = s} {own = own} h k =
     ⊎-elim
-    (λ (p : (own < countOf job) × (slotAt s i ≡ workingAfter job own)). let q = all-turns h (ap isWorking (p .1)) in absurd (omega arith))
-    (λ (p : (own ≡ countOf job) × (slotAt s i ≡ finishedWith job)). p .1)
+    (λ (p : (own < candidateCount job) × (slotAt s i ≡ workingAfter job own)). let q = all-turns h (ap isWorking (p .1)) in absurd (omega arith))
+    (λ (p : (own ≡ candidateCount job) × (slotAt s i ≡ finishedWith job)). p .1)
     (own-turns h)
 
 -- 3. "Others' jobs affect only the turn in which it comes": two histories that gave the job equally many turns leave its slot alike
@@ -154,8 +154,8 @@ as-searched {i = i} {job = job} {s = s} {own = own} h w room =
     done : slotAt s i ≡ finishedWith job
     done =
         ⊎-elim
-        (λ (p : (own < countOf job) × (slotAt s i ≡ workingAfter job own)). absurd (true≢false (sym (ap isWorking (p .1)) ∙ w)))
-        (λ (p : (own ≡ countOf job) × (slotAt s i ≡ finishedWith job)). p .1)
+        (λ (p : (own < candidateCount job) × (slotAt s i ≡ workingAfter job own)). absurd (true≢false (sym (ap isWorking (p .1)) ∙ w)))
+        (λ (p : (own ≡ candidateCount job) × (slotAt s i ≡ finishedWith job)). p .1)
         (own-turns h)
 
 -- 5. "Collecting, a 14 included, empties the desk"
@@ -175,7 +175,7 @@ module _ {s : State} (r : Reachable s) (i room : ℕ) where
     where
       by-code : Dec (collectCode s i room ≡ 0) → slotAt (afterCollect s i room) i ≡ empty
       by-code (yes k) = emptied s (eight r) i room k
-      by-code (no k) = let q = collect-refused s i room k .0 ∙ e in let z : _≡_ {A = ℕ} 0 1 = cc in absurd (omega arith)
+      by-code (no k) = absurd (answered-never f (collectCode s i room) (sym (collect-refused s i room k .0 ∙ e)))
 
   pub none-empties : collectOf s i room ≡ refused 14 → slotAt (afterCollect s i room) i ≡ empty
   none-empties e = by-code (ℕ-discrete (collectCode s i room) 0)
@@ -187,24 +187,17 @@ module _ {s : State} (r : Reachable s) (i room : ℕ) where
           let z : collectCode s i room ≡ 14 = cc in
           absurd (never-fourteen s i room z)
 
--- a finished slot is refused by no number but 14
-result-none : (x : Slot) → isFinished x ≡ true → (n : ℕ) → resultOf x ≡ refused n → n ≡ 14
-result-none empty h n e = absurd (true≢false (sym h))
-result-none (working job left held) h n e = absurd (true≢false (sym h))
-result-none (finished job none) h n e = cc
-result-none (finished job (some c)) h n e = let z : _≡_ {A = ℕ} 0 1 = cc in absurd (omega arith)
-
 -- 6. "every other refusal changes nothing, so a 13 leaves it finished"
 pub collect-keeps : (s : State) (i room n : ℕ) → collectOf s i room ≡ refused n → (n ≡ 14 → ⊥) → afterCollect s i room ≡ s
 collect-keeps s i room n e k = by-code (ℕ-discrete (collectCode s i room) 0)
   where
     by-code : Dec (collectCode s i room ≡ 0) → afterCollect s i room ≡ s
     by-code (no q) = sym (collect-refused s i room q .1)
-    by-code (yes q) = absurd (k (result-none (slotAt s i) (collect-parts s i room q .1 .0) n (collect-done s i room q .0 ∙ e)))
+    by-code (yes q) = absurd (k (only-none (slotAt s i) (collect-parts s i room q .1 .0) n (ap reported (collect-done s i room q .0 ∙ e))))
 
 pub post-keeps : (s : State) (i : ℕ) (job : List ℕ) (n : ℕ) → postOf s i job ≡ refused n → afterPost s i job ≡ s
 post-keeps s i job n e = by-code (ℕ-discrete (postCode s i job) 0)
   where
     by-code : Dec (postCode s i job ≡ 0) → afterPost s i job ≡ s
     by-code (no q) = sym (post-refused s i job q .1)
-    by-code (yes q) = let u = post-accepted s i job q .0 ∙ e in let z : _≡_ {A = ℕ} 0 1 = cc in absurd (omega arith)
+    by-code (yes q) = absurd (answered-never tt n (post-accepted s i job q .0 ∙ e))

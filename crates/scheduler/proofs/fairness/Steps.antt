@@ -1,6 +1,6 @@
 -- What one call does to one slot, and what a turn of its own does to a job.
 use mathlib.Core.Path.{_≡_, refl, sym, ap, _∙_, subst}
-use mathlib.Core.Bool.{Bool, true, false, true≢false}
+use mathlib.Core.Bool.{Bool, true, false, not, true≢false, false≢true}
 use mathlib.Core.Logic.{_⊎_, inl, inr}
 use mathlib.Core.List.{List, [], _∷_}
 use mathlib.Core.Option.{Option, none, some}
@@ -21,7 +21,7 @@ use Rattle.scheduler.specs.slot.Slots.{Slot, empty, working, finished, i
 use Rattle.scheduler.specs.states.States.{State, slotAt, withSlot, postCode, afterPost, servedBy, afterServing, afterTurn, collectCode, afterCollect}
 use Rattle.scheduler.proofs.states.Rules.{post-parts, post-refused, post-accepted, collect-refused, collect-done}
 use Rattle.scheduler.proofs.states.Serving.{served-is}
-use Rattle.scheduler.specs.fairness.Histories.{Call, posting, turning, collecting, afterCall, Reachable, isFor, ownOf}
+use Rattle.scheduler.specs.fairness.Histories.{Call, posting, turning, collecting, afterCall, Reachable, isFor, ownOf, leaves}
 
 -- eight slots, one of them served last
 abbrev pub Eight : State → Type 0
@@ -82,12 +82,19 @@ module _ (t : State) (i : ℕ) (h : Eight t) (few : i ≤ 7) where
           ∙ other j (begun job) (t .last)
           (λ q. true≢false (sym (post-parts t j job e .1 .0) ∙ ap (λ (k : ℕ). isEmpty (slotAt t k)) (sym q) ∙ full))
 
+  collected-other : (j room : ℕ) → (i ≡ j → ⊥) → slotAt (afterCollect t j room) i ≡ slotAt t i
+  collected-other j room apart = by-code (ℕ-discrete (collectCode t j room) 0)
+    where
+      by-code : Dec (collectCode t j room ≡ 0) → slotAt (afterCollect t j room) i ≡ slotAt t i
+      by-code (no k) = ap (λ (s : State). slotAt s i) (sym (collect-refused t j room k .1))
+      by-code (yes e) = ap (λ (s : State). slotAt s i) (sym (collect-done t j room e .1)) ∙ other j empty (t .last) apart
+
   collected : (j room : ℕ) → isEmpty (slotAt (afterCollect t j room) i) ≡ false → slotAt (afterCollect t j room) i ≡ slotAt t i
   collected j room full = by-code (ℕ-discrete (collectCode t j room) 0) (ℕ-discrete i j)
     where
       by-code : Dec (collectCode t j room ≡ 0) → Dec (i ≡ j) → slotAt (afterCollect t j room) i ≡ slotAt t i
-      by-code (no k) d = ap (λ (s : State). slotAt s i) (sym (collect-refused t j room k .1))
-      by-code (yes e) (no k) = ap (λ (s : State). slotAt s i) (sym (collect-done t j room e .1)) ∙ other j empty (t .last) k
+      by-code d (no k) = collected-other j room k
+      by-code (no k) (yes q) = ap (λ (s : State). slotAt s i) (sym (collect-refused t j room k .1))
       by-code (yes e) (yes q) =
           absurd (true≢false (sym (ap isEmpty (vacated room (ap (λ (k : ℕ). collectCode t k room) q ∙ e)))
           ∙ ap (λ (k : ℕ). isEmpty (slotAt (afterCollect t k room) i)) q ∙ full))
@@ -111,6 +118,13 @@ module _ (t : State) (i : ℕ) (h : Eight t) (few : i ≤ 7) where
   became (posting j job) full still = Became.stayed (posted j job full) refl
   became turning full still = turned
   became (collecting j room) full still = Became.stayed (collected j room still) refl
+
+  -- the same of a call that does not collect the slot, which then stays full
+  pub became-left : (c : Call) → isEmpty (slotAt t i) ≡ false → leaves i c ≡ true → Became t (afterCall t c) i (ownOf i t c)
+  became-left (posting j job) full keeps = Became.stayed (posted j job full) refl
+  became-left turning full keeps = turned
+  became-left (collecting j room) full keeps =
+      Became.stayed (collected-other j room (λ q. false≢true (sym (ap not (eq-eqb j i (sym q))) ∙ keeps))) refl
 
 -- a slot with a list of candidates, after so many turns of its own
 module _ (job : List ℕ) (l : List Choice) where

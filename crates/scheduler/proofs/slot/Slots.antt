@@ -6,21 +6,22 @@ use mathlib.Core.Option.{none}
 use Prim.Native.Nat.{ℕ, suc, _≤_, _<_}
 use native.Mathlib.Decide.{ℕ-discrete}
 use native.Mathlib.Omega.{arith}
-use borrow.Author.Tests.{leb-true, leb-false, eqb-true, le-leb, lt-leb, eq-eqb, ne-eqb}
+use borrow.Author.Tests.{leb-true, eqb-true, le-leb, lt-leb, eq-eqb, ne-eqb}
 use lib.Dec.{leb, eqb}
 use lib.ListN.{length, take}
 use lib.Seq.{take-at, take-length}
 use Rattle.logic.specs.Rules.{both, pick}
 use Rattle.logic.proofs.Chain.{both-parts, both-true}
 use Rattle.record.specs.JobRules.{jobCode}
-use Rattle.record.proofs.Long.{long-job}
+use Rattle.record.proofs.Long.{job-short}
 use Rattle.problem.specs.declared.order.Best.{Best}
 use Rattle.problem.specs.order.Choices.{Choice, attempt}
-use Rattle.problem.specs.order.Inner.{view}
+use Rattle.problem.specs.order.View.{view}
 use Rattle.problem.specs.Problems.{Problem, good}
 use Rattle.outcomes.specs.Outcomes.{problemOver, problemOf}
 use Rattle.scheduler.specs.declared.candidates.Next.{Next}
-use Rattle.scheduler.specs.candidates.Inner.{left, digitsAt, currentAt, afterAt, leftAt, remaining}
+use Rattle.scheduler.specs.candidates.Inner.{currentAt, afterAt, remaining}
+use Rattle.scheduler.specs.candidates.Left.{left, digitsAt, leftAt}
 use Rattle.scheduler.proofs.candidates.Odometer.{all-left}
 use Rattle.scheduler.specs.declared.slot.SlotState.{SlotState}
 use Rattle.scheduler.specs.slot.Slots.{Slot, empty, working, finished, isEmpty, isWorking, isFinished, going, begun, tried}
@@ -174,14 +175,6 @@ none-there e h = seen e 0 (by-sound (soundOf e))
     by-sound : (t : Bool) → pick t (e .status) 0 ≡ 0
     by-sound true = h
     by-sound false = refl
-
--- a well-formed job fits into the array of a state
-pub job-short : (job : List ℕ) → jobCode job ≡ 0 → length job ≤ 30
-job-short job sound = by-length (leb (length job) 30) refl
-  where
-    by-length : (t : Bool) → leb (length job) 30 ≡ t → length job ≤ 30
-    by-length true q = leb-true (length job) 30 q
-    by-length false q = let k = long-job job (leb-false (length job) 30 q) in absurd (omega arith)
 
 -- a job that was just posted
 pub posted : (job : List ℕ) → jobCode job ≡ 0 → (e : SlotState) (rest : List ℕ)

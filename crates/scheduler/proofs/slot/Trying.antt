@@ -14,7 +14,7 @@ use Rattle.circuit.specs.declared.measures.Measures.{Measures}
 use Rattle.circuit.specs.measures.Measures.{measuresOf}
 use Rattle.problem.specs.declared.order.Best.{Best}
 use Rattle.problem.specs.order.Choices.{Choice, keep, attempt}
-use Rattle.problem.specs.order.Inner.{choice, view}
+use Rattle.problem.specs.order.View.{choice, view}
 use Rattle.problem.proofs.order.First.{attempt-not}
 use Rattle.problem.specs.Problems.{choiceOf, within, good}
 use Rattle.outcomes.specs.Outcomes.{problemOver, problemOf, ownSet, outcomeOf}

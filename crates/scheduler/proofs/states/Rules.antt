@@ -1,16 +1,30 @@
 -- The codes of posting and collecting, put together from their parts and taken apart again; and the two ways out of each call.
-use mathlib.Core.Path.{_≡_, refl, ap, _∙_}
-use mathlib.Core.Bool.{Bool, true, false}
+use mathlib.Core.Path.{_≡_, refl, sym, ap, _∙_}
+use mathlib.Core.Bool.{Bool, true, false, true≢false}
 use mathlib.Core.List.{List}
+use mathlib.Core.Option.{none, some}
 use Prim.Native.Nat.{ℕ, _≤_}
+use native.Mathlib.Omega.{arith}
 use borrow.Author.Tests.{leb-true, eq-eqb, ne-eqb}
 use lib.Dec.{leb, lit<}
 use Rattle.logic.specs.Rules.{rule, andThen}
 use Rattle.logic.specs.Answers.{refused, answered}
 use Rattle.logic.proofs.Chain.{rule-kept}
 use Rattle.record.specs.JobRules.{jobCode}
-use Rattle.scheduler.specs.slot.Slots.{Slot, empty, isEmpty, isFinished, begun, resultOf}
+use Rattle.outcomes.specs.Outcomes.{reported}
+use Rattle.scheduler.specs.slot.Slots.{Slot, empty, working, finished, isEmpty, isFinished, begun, resultOf}
 use Rattle.scheduler.specs.states.States.{State, slotAt, withSlot, postCode, postOf, afterPost, collectCode, collectOf, afterCollect}
+
+-- an answer is no refusal
+pub answered-never : {A : Type 0} (a : A) (n : ℕ) → answered a ≡ refused n → ⊥
+answered-never a n e = let z : _≡_ {A = ℕ} 0 1 = cc in absurd (omega arith)
+
+-- a finished slot is refused by no number but 14
+pub only-none : (x : Slot) → isFinished x ≡ true → (n : ℕ) → reported (resultOf x) ≡ refused n → n ≡ 14
+only-none empty h n e = absurd (true≢false (sym h))
+only-none (working job left held) h n e = absurd (true≢false (sym h))
+only-none (finished job none) h n e = cc
+only-none (finished job (some c)) h n e = absurd (answered-never _ n e)
 
 module _ (s : State) (i : ℕ) (x : Slot) (here : x ≡ slotAt s i) where
   pub post-rules : (job : List ℕ) (free : Bool) (occupied unsound both all : ℕ) → free ≡ isEmpty x → occupied ≡ rule free 36 0 → unsound ≡ jobCode job

@@ -1,14 +1,15 @@
 -- Sequences of calls: the states that they make from the start, how many turns there were since a job was posted, and where its slot then
 -- stands. The theorems of proofs/fairness/Promises.antt say document 02's promises with these. Read states/States.antt first.
 use mathlib.Core.Path.{_≡_}
-use mathlib.Core.Bool.{Bool, false}
+use mathlib.Core.Bool.{Bool, true, false, not}
 use mathlib.Core.Logic.{_⊎_}
-use mathlib.Core.List.{List}
+use mathlib.Core.List.{List, [], _∷_}
 use mathlib.Core.Option.{Option, none, some}
-use Prim.Native.Nat.{ℕ, _+_, _<_}
+use Prim.Native.Nat.{ℕ, suc, _+_, _<_}
 use lib.Dec.{eqb}
 use lib.ListN.{length, take, drop}
 use Rattle.logic.specs.Rules.{bit}
+use Rattle.logic.specs.Lists.{along}
 use Rattle.problem.specs.order.Choices.{improve}
 use Rattle.problem.specs.Problems.{good, firstGood}
 use Rattle.outcomes.specs.Outcomes.{problemOf}
@@ -57,9 +58,35 @@ pub data Since (i : ℕ) (job : List ℕ) : State → ℕ → ℕ → Type 0 whe
       → isEmpty (slotAt s i) ≡ false
       → own ≡ m + ownOf i t c → all ≡ n + turnOf c → Since i job s own all
 
+-- the state after some calls, from the first to the last
+abbrev pub afterCalls : State → List Call → State
+afterCalls s cs = along (λ (c : Call) (t : State). afterCall t c) cs s
+
+-- how many of some calls are turns
+unfoldable pub turnsIn : List Call → ℕ
+turnsIn [] = 0
+turnsIn (posting j job ∷ cs) = turnsIn cs
+turnsIn (turning ∷ cs) = suc (turnsIn cs)
+turnsIn (collecting j room ∷ cs) = turnsIn cs
+
+-- a call that does not collect slot i
+abbrev pub leaves : ℕ → Call → Bool
+leaves i (posting j job) = true
+leaves i turning = true
+leaves i (collecting j room) = not (eqb j i)
+
+-- a history of `Since` as its calls: the state in which the job was posted, and all calls since then, of which `all` are turns
+pub record CallsSince (i : ℕ) (job : List ℕ) (s : State) (all : ℕ) : Type 0 where
+  pub given : State
+  pub calls : List Call
+  pub reached : Reachable given
+  pub accepted : postCode given i job ≡ 0
+  pub made : s ≡ afterCalls (afterPost given i job) calls
+  pub counted : all ≡ turnsIn calls
+
 -- the number of a job's candidates, document 02's N
-abbrev pub countOf : List ℕ → ℕ
-countOf job = length (candidates (problemOf job))
+abbrev pub candidateCount : List ℕ → ℕ
+candidateCount job = length (candidates (problemOf job))
 
 -- the slot of a job after `own` turns of its own: so many candidates are tried, and the rest are left
 abbrev pub workingAfter : List ℕ → ℕ → Slot
@@ -72,4 +99,5 @@ finishedWith job = finished job (firstGood (problemOf job))
 
 -- which of the two it is: it works until it had as many turns as there are candidates
 abbrev pub Standing : List ℕ → ℕ → Slot → Type 0
-Standing job own slot = ((own < countOf job) × (slot ≡ workingAfter job own)) ⊎ ((own ≡ countOf job) × (slot ≡ finishedWith job))
+Standing job own slot =
+    ((own < candidateCount job) × (slot ≡ workingAfter job own)) ⊎ ((own ≡ candidateCount job) × (slot ≡ finishedWith job))

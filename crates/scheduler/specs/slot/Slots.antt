@@ -47,7 +47,8 @@ tried (working job [] held) = working job [] held
 tried (working job (c ∷ left) held) = going job left (attempt (good (problemOf job)) held c)
 tried (finished job held) = finished job held
 
--- the answer of a finished slot: its best choice as the search would answer it, or 14; a slot that is not finished has none, 37
+-- the answer of a finished slot: its best choice as the search would answer it, or 14. The other two cases only complete the function:
+-- collecting asks a finished slot alone, and refuses by 37 before it asks any other.
 abbrev pub resultOf : Slot → Answer Found
 resultOf empty = refused 37
 resultOf (working job left held) = refused 37

@@ -7,9 +7,9 @@ use lib.Dec.{leb, eqb}
 use lib.ListN.{take}
 use Rattle.logic.specs.Rules.{both, pick}
 use Rattle.record.specs.JobRules.{jobCode}
-use Rattle.problem.specs.order.Inner.{view}
+use Rattle.problem.specs.order.View.{view}
 use Rattle.outcomes.specs.Outcomes.{problemOf}
-use Rattle.scheduler.specs.candidates.Inner.{leftAt}
+use Rattle.scheduler.specs.candidates.Left.{leftAt}
 use Rattle.scheduler.specs.declared.slot.SlotState.{SlotState}
 use Rattle.scheduler.specs.slot.Slots.{Slot, empty, working, finished}
 

@@ -13,7 +13,7 @@ use Rattle.logic.specs.Answers.{refused, answered}
 use Rattle.gate.specs.Gates.{gatesFor, lawful}
 use Rattle.sizes.specs.permutations.Inner.{Level}
 use Rattle.sizes.proofs.permutations.Levels.{level-first, level-last}
-use Rattle.sizes.specs.Sheet.{fillCode, fillOf, cellsLeft}
+use Rattle.sizes.specs.Filling.{fillCode, fillOf, cellsLeft}
 use Rattle.sizes.proofs.fill.Statement.{statement}
 use Rattle.sizes.proofs.fill.Tie as tie
 
@@ -22,7 +22,7 @@ other : (cells : List ℕ) → (length cells ≡ 40320 → ⊥) → (refused 25 
 unfolding fillOf fillCode cellsLeft
 other cells n = rw (ne-eqb (length cells) 40320 n) (refl, refl)
 
--- a buffer of the right one: cleared and swept it is the sheet
+-- a buffer of the right one: cleared and swept it is the table of sizes
 whole : (before clear after : List ℕ) → length before ≡ 40320
     → ((s : ℕ) → s < length before → getD clear s 0 ≡ pick (eqb s 0) 0 255)
     → length after ≡ 40320 → (Level 1 clear → Level 255 after)

@@ -1,4 +1,4 @@
--- The sweeps over the sheet: one for k + 1 gates gives each cell its least count below k + 2, where it had that below k + 1.
+-- The sweeps over the table of sizes: one for k + 1 gates gives each cell its least count below k + 2, where it had that below k + 1.
 use mathlib.Core.Path.{_≡_, refl, sym, ap, _∙_}
 use mathlib.Core.Bool.{Bool, true, false, not, false≢true, true≢false}
 use mathlib.Core.List.{List, [], _∷_, map, List·Memᴰ}
@@ -178,7 +178,7 @@ pub level-first : (cells : List ℕ) → ((s : ℕ) → s < 40320 → getD cells
 unfolding leastBelow
 level-first cells h r inside = h r inside ∙ ap (λ (t : Bool). pick t 0 255) (sym (by-none r inside))
 
--- all counts: the sheet
+-- all counts: the table of sizes
 pub level-last : (cells : List ℕ) → length cells ≡ 40320 → Level 255 cells → cells ≡ sizes
 unfolding sizes sizeOf
 level-last cells long level =

@@ -1,4 +1,4 @@
--- The sheet in a caller's words: no list of any length that makes a permutation is shorter than its cell, one is as long, and none is 255.
+-- The table of sizes in a caller's words: no list of any length that makes a permutation is shorter than its cell, one is as long, and none is 255.
 use mathlib.Core.Path.{_≡_, refl, sym, ap, _∙_, subst}
 use mathlib.Core.Bool.{Bool, true, false}
 use mathlib.Core.Logic.{_↔_}
@@ -7,9 +7,12 @@ use Prim.Native.Nat.{ℕ, _≤_, _<_}
 use native.Mathlib.Nat.{zero-add}
 use native.Mathlib.Omega.{arith}
 use borrow.Author.Tests.{ltb-true, ltb-false, leb-true, leb-false}
-use lib.Dec.{ltb, leb}
+use lib.Dec.{ltb, leb, eqb}
 use lib.ListN.{length, getD, length-map}
 use Rattle.logic.specs.Lists.{allOf, Among}
+use Rattle.logic.specs.Answers.{refused}
+use Rattle.logic.proofs.Answers.{refused-is}
+use Rattle.logic.proofs.Chain.{rule-never}
 use Rattle.logic.proofs.Members.{numbers-at}
 use Rattle.gate.specs.Gates.{lawful}
 use Rattle.gate.proofs.Tables.{among-lawful}
@@ -17,6 +20,7 @@ use Rattle.circuit.specs.run.Run.{forwards, backwards}
 use Rattle.circuit.proofs.run.Reversal.{stays, undone}
 use Rattle.sizes.specs.permutations.Orders.{eight, permutations, Arranges, rankOf}
 use Rattle.sizes.specs.permutations.Sizes.{twelve, Makes, madeBy, sizeOf, sizes, cellOf}
+use Rattle.sizes.specs.Filling.{fillCode, fillOf}
 use Rattle.sizes.specs.permutations.Inner.{permutationAt}
 use Rattle.sizes.proofs.permutations.Lists.{map-at}
 use Rattle.sizes.proofs.permutations.Orders.{eight-distinct, permutations-many, permutes-at, rank-at, rank-lt, at-rank}
@@ -25,10 +29,10 @@ use Rattle.sizes.proofs.permutations.Least.{least-most, least-some, lea
 use Rattle.sizes.proofs.permutations.Made.{made-is, made-has}
 use Rattle.sizes.proofs.permutations.Exchanges.{reached}
 
--- the sheet has 40,320 cells
-pub sheet-long : length sizes ≡ 40320
+-- the table of sizes has 40,320 cells
+pub sizes-long : length sizes ≡ 40320
 unfolding sizes
-sheet-long = length-map permutations sizeOf ∙ permutations-many
+sizes-long = length-map permutations sizeOf ∙ permutations-many
 
 module _ (v : List ℕ) (a : Arranges eight v) where
   cell-is : cellOf v ≡ sizeOf v
@@ -85,7 +89,7 @@ module _ (v : List ℕ) (a : Arranges eight v) where
 pub cell-at : (r : ℕ) → r < 40320 → Arranges eight (permutationAt r) × (cellOf (permutationAt r) ≡ getD sizes r 0)
 cell-at r h = (permutes-at r h, ap (λ (n : ℕ). getD sizes n 0) (rank-at r h))
 
--- so 255 stands nowhere on the sheet
+-- so 255 stands nowhere on the table of sizes
 pub never-at : (r : ℕ) → r < 40320 → getD sizes r 0 ≤ 72
 never-at r h = let c = cell-at r h in subst (λ (n : ℕ). n ≤ 72) (c .1) (never-255 (permutationAt r) (c .0))
 
@@ -100,3 +104,8 @@ makes-one l w = (
   where
     kept : allOf (lawful 2 3) l ≡ true
     kept = among-lawful 2 3 l w
+
+-- The call is never refused with 11.
+pub fill-never : (cells : List ℕ) → fillOf cells ≡ refused 11 → ⊥
+unfolding fillOf fillCode
+fill-never cells h = rule-never 11 (eqb (length cells) 40320) 25 0 (λ e. omega arith) (λ e. omega arith) (refused-is (fillCode cells) tt 11 h)

@@ -1,5 +1,5 @@
--- How the sheet is filled: permutations by their places, masks of unused values, and one sweep over the cells. No public contract cites
--- this.
+-- How the table of sizes is filled: permutations by their places, masks of unused values, and one sweep over the cells. No public contract
+-- cites this.
 use mathlib.Core.Path.{_≡_}
 use mathlib.Core.Bool.{Bool, not}
 use mathlib.Core.List.{List, [], _∷_, map}

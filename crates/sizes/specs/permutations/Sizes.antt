@@ -1,4 +1,4 @@
--- The least number of gates that make each permutation of three wires: what the cells of the sheet hold.
+-- The least number of gates that make each permutation of three wires: what the cells of the table of sizes hold.
 use mathlib.Core.Path.{_≡_}
 use mathlib.Core.Bool.{Bool, false}
 use mathlib.Core.List.{List, [], _∷_, map}
@@ -42,7 +42,7 @@ leastBelow (suc n) f = pick (ltb (leastBelow n f) 255) (leastBelow n f) (pick (f
 unfoldable pub sizeOf : List ℕ → ℕ
 sizeOf v = leastBelow 255 (madeBy v)
 
--- the sheet: "The cell at a permutation's place .. holds" its least gate count
+-- the table of sizes: "The cell at a permutation's place .. holds" its least gate count
 unfoldable pub sizes : List ℕ
 sizes = map sizeOf permutations
 

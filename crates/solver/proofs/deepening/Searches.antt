@@ -8,7 +8,7 @@ use lib.ListN.{length}
 use Rattle.logic.proofs.Members.{place-of, member-at}
 use Rattle.problem.specs.declared.order.Best.{Best}
 use Rattle.problem.specs.order.Choices.{Choice}
-use Rattle.problem.specs.order.Inner.{view}
+use Rattle.problem.specs.order.View.{view}
 use Rattle.problem.specs.Problems.{Problem, choiceOf, choices, good}
 use Rattle.problem.specs.Inner.{Past, Dearer, Shortest}
 use Rattle.problem.proofs.Limits.{past-below, found-cost}

@@ -8,7 +8,7 @@ use Rattle.logic.specs.Lists.{Among}
 use Rattle.circuit.specs.Measure.{cost}
 use Rattle.problem.specs.Problems.{Problem, firstGood}
 use Rattle.problem.specs.declared.order.Best.{Best}
-use Rattle.problem.specs.order.Inner.{view}
+use Rattle.problem.specs.order.View.{view}
 use Rattle.problem.specs.Inner.{Past, Dearer, Shortest}
 use Rattle.walk.specs.declared.node.Task.{Task}
 

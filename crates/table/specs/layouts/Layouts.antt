@@ -26,7 +26,7 @@ layoutOk n p = both (allBelow n (ownWire n p)) (implies (eqb n 3) (eqb (wireOf p
 
 -- "The plain placing puts output bit j on wire j: 0x18 for n = 3, 0x1B for n = 4."
 abbrev pub plain : ℕ → ℕ
-plain n = pick (eqb n 3) 24 27
+plain n = pick (eqb n 3) 0x18 0x1B
 
 -- "Allowed is every placing that keeps the rules for a circuit's byte 1; with fixed placing, only the plain one."
 unfoldable pub allowed : ℕ → ℕ → ℕ → Bool

@@ -39,7 +39,7 @@ module _ {l line n : List ℕ} {k : ℕ} (w : Wrote l 0 line n k) where
   line-size = omega (arith, w .size)
 
   pub line-in-front : length line ≤ length l → n ≡ inFront line l
-  unfolding over inFront
+  unfolding over
   line-in-front h =
       let e : 0 + length line ≡ length line = omega arith in w .bytes ∙ sets-eq line l 0 (omega arith) ∙ ap (λ (k : ℕ). line ++ drop k l) e
 

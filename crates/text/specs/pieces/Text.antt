@@ -40,6 +40,6 @@ unfoldable pub foundLine : Measures → List ℕ → List ℕ
 foundLine m circuit =
     bytes "found " ++ (spaced (m .gates) ++ (spaced (m .cost) ++ (spaced (m .depth) ++ (hexOf circuit ++ lineFeed))))
 
--- a buffer after a line was written at its start: the bytes after the line are those that were there
-unfoldable pub inFront : List ℕ → List ℕ → List ℕ
+-- a buffer after a line, or any other bytes, were "written from byte 0; later bytes are untouched"
+abbrev pub inFront : List ℕ → List ℕ → List ℕ
 inFront line out = line ++ drop (length line) out

@@ -1,5 +1,5 @@
--- A run that is not refused ends with a byte, and no run is refused with 11.
-use mathlib.Core.Path.{_≡_}
+-- A run that is not refused ends with a byte, which is what the published gate definitions give; and no run is refused with 11.
+use mathlib.Core.Path.{_≡_, _∙_}
 use mathlib.Core.Bool.{Bool, true, false}
 use mathlib.Core.List.{List}
 use Prim.Native.Nat.{ℕ, _^_, _<_}
@@ -8,19 +8,21 @@ use borrow.Author.Tests.{ltb-true}
 use lib.Dec.{ltb, lit<}
 use lib.Pow.{pow-mono}
 use Rattle.logic.specs.Rules.{pick, rule}
-use Rattle.logic.proofs.Chain.{and-then-zero, rule-kept, rule-never, and-then-never}
+use Rattle.logic.proofs.Chain.{and-then-zero, rule-kept}
 use Rattle.circuit.specs.run.Run.{forwards, backwards}
+use Rattle.circuit.specs.run.Published.{publishedForwards, publishedBackwards}
 use Rattle.circuit.proofs.run.Reversal.{stays, stays-back}
+use Rattle.circuit.proofs.run.Published.{forwards-published, backwards-published}
 use Rattle.record.specs.job_fields.Jobs.{wires}
 use Rattle.record.specs.circuit_rules.CircuitRules.{circuitCode}
-use Rattle.record.specs.circuit_fields.Circuits.{controlsOf, gates}
+use Rattle.record.specs.circuit_fields.Circuits.{marked, controlsOf, gates}
+use Rattle.record.proofs.job_fields.Widths.{two-or-three}
 use Rattle.record.proofs.circuit_rules.Sound.{sound-circuit, circuit-wires-within}
-use Rattle.verify.specs.runs.Runs.{runOf}
+use Rattle.verify.specs.runs.Runs.{runOf, forwardsOf, backwardsOf}
 use Rattle.record.specs.pair_codes.Codes.{runCode}
-use native.Mathlib.Omega.{arith}
-use Rattle.logic.specs.Answers.{refused}
-use Rattle.logic.proofs.Answers.{refused-is}
-use Rattle.record.proofs.circuit_rules.Eleven.{circuit-never}
+use Rattle.logic.specs.Answers.{refused, answered}
+use Rattle.logic.proofs.Answers.{refused-is, answered-is}
+use Rattle.record.proofs.Never.{run-code-never}
 
 module _ (c : List ℕ) where
   run-parts : (v : ℕ) → runCode c v ≡ 0 → (circuitCode c ≡ 0) × (v < 2 ^ wires c)
@@ -39,8 +41,26 @@ module _ (c : List ℕ) where
       lt-of-lt-of-le (stays-back (controlsOf c) (wires c) (gates c) v (sound-circuit c (p .0) .kept) (p .1))
       (pow-mono (circuit-wires-within c (p .0) .1))
 
+  -- Demand 2: a run that is answered gives what the published gate definitions give, gate after gate.
+  module _ (v u : ℕ) where
+    pub ran-forwards : forwardsOf c v ≡ answered u → u ≡ publishedForwards (gates c) v
+    unfolding runOf
+    ran-forwards h =
+        let a = answered-is (runCode c v) (forwards (gates c) v) u h in
+        let p = run-parts v (a .0) in
+        a .1
+        ∙ forwards-published (controlsOf c) (wires c) (two-or-three (marked c) .1) (circuit-wires-within c (p .0) .1) (gates c) v
+        (sound-circuit c (p .0) .kept) (p .1)
+
+    pub ran-backwards : backwardsOf c v ≡ answered u → u ≡ publishedBackwards (gates c) v
+    unfolding runOf
+    ran-backwards h =
+        let a = answered-is (runCode c v) (backwards (gates c) v) u h in
+        let p = run-parts v (a .0) in
+        a .1
+        ∙ backwards-published (controlsOf c) (wires c) (two-or-three (marked c) .1) (circuit-wires-within c (p .0) .1) (gates c) v
+        (sound-circuit c (p .0) .kept) (p .1)
+
 pub run-never : (forth : Bool) (c : List ℕ) (v : ℕ) → runOf forth c v ≡ refused 11 → ⊥
-unfolding runOf runCode
-run-never forth c v h =
-    and-then-never 11 (circuitCode c) _ (circuit-never c) (rule-never 11 (ltb v (2 ^ wires c)) 20 0 (λ e. omega arith) (λ e. omega arith))
-    (refused-is (runCode c v) (pick forth (forwards (gates c) v) (backwards (gates c) v)) 11 h)
+unfolding runOf
+run-never forth c v h = run-code-never c v (refused-is (runCode c v) (pick forth (forwards (gates c) v) (backwards (gates c) v)) 11 h)

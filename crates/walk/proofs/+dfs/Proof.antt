@@ -16,7 +16,7 @@ use Rattle.logic.proofs.Chain.{either-cases}
 use Rattle.logic.proofs.Members.{member-at}
 use Rattle.gate.specs.Gates.{targetOf}
 use Rattle.problem.specs.order.Choices.{Choice, improve}
-use Rattle.problem.specs.order.Inner.{view}
+use Rattle.problem.specs.order.View.{view}
 use Rattle.problem.proofs.order.First.{improve-append}
 use Rattle.problem.specs.Problems.{Problem, here, within}
 use Rattle.problem.specs.Inner.{Enough}

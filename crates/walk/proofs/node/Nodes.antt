@@ -25,7 +25,7 @@ use Rattle.columns.specs.Wanted.{startColumns, met, tidy, reached}
 use Rattle.columns.specs.Finish.{Finish}
 use Rattle.problem.specs.declared.order.Best.{Best}
 use Rattle.problem.specs.order.Choices.{Choice, keep, attempt, improve}
-use Rattle.problem.specs.order.Inner.{choice}
+use Rattle.problem.specs.order.View.{choice}
 use Rattle.problem.proofs.order.First.{improve-append}
 use Rattle.problem.specs.Problems.{Problem, choiceOf, here, within}
 use Rattle.normal_forms.specs.masks.Words.{noMasks, stepped, masksAfter}

@@ -7,7 +7,7 @@ use native.Mathlib.Omega.{arith}
 use borrow.Author.Needs.{needs}
 use lib.ListN.{take}
 use Rattle.problem.specs.order.Choices.{Choice}
-use Rattle.problem.specs.order.Inner.{view}
+use Rattle.problem.specs.order.View.{view}
 use Rattle.problem.specs.pruned.Pruned.{triedUnder}
 use Rattle.walk.specs.node.States.{needless, Exact}
 use Rattle.walk.proofs.node.Forms.{nothing-lost}

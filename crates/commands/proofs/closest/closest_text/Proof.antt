@@ -8,7 +8,7 @@ use lib.Seq.{length-take-le}
 use Rattle.reports.proofs.refusal.Short.{refused-short}
 use Rattle.approximate.specs.Calls.{closestOf}
 use Rattle.approximate.proofs.Told.{when-refused, when-found}
-use Rattle.printed.specs.misses.Closeness.{printed, closestText}
+use Rattle.printed.specs.misses.Closeness.{closestText, printedClosest}
 use Rattle.printed.specs.misses.Inner.{bothLines}
 use Rattle.commands.proofs.closest.closest_text.Statement.{statement}
 use Rattle.commands.proofs.closest.closest_text.Tie as tie
@@ -33,7 +33,7 @@ returns c =
     let z = r .before .before .before in
     let q = z .before .before .before in
     let s = q .before .before .before .before in
-    let e = ap printed (when-refused (closestOf (s .args .job .now) 15) (q .closest .result) (z .code .given .0 .0) (q .closest .ensures .0) (z .code .given .1)) in
+    let e = ap printedClosest (when-refused (closestOf (s .args .job .now) 15) (q .closest .result) (z .code .given .0 .0) (q .closest .ensures .0) (z .code .given .1)) in
     let h = refused-short (z .code .given .0 .0) in
     let k = r .refused-text .ensures .0 in
     (rw e k, (omega arith, rw e (r .refused-text .ensures .1)))
@@ -45,7 +45,7 @@ returns-2 c =
     let z = r .before .before .before .before in
     let q = z .before .before .before in
     let s = q .before .before .before .before in
-    let e = ap printed (when-found (closestOf (s .args .job .now) 15) (q .closest .result) (z .size .given .0 .0) _ _ _ (q .closest .last .1 .0) (q .closest .ensures .0) (z .size .given .1) (q .closest .ensures .1 .1)) in
+    let e = ap printedClosest (when-found (closestOf (s .args .job .now) 15) (q .closest .result) (z .size .given .0 .0) _ _ _ (q .closest .last .1 .0) (q .closest .ensures .0) (z .size .given .1) (q .closest .ensures .1 .1)) in
     (rw e (r .put-close .ensures .0), (r .put-close .ensures .1 .0, rw e (r .put-close .ensures .1 .1)))
 
 pub closest-text-spec : {M : Type 1} → statement M

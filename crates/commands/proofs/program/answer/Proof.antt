@@ -12,7 +12,7 @@ slice-aggregate-read-full c =
     let b = c .before .before .buffer in
     let r = c .before .room in
     let e = b .ensures in
-    let k = r .ensures .1 in
+    let k = r .ensures .1 .1 in
     sym (length-take-le (r .result) (b .result) (omega arith))
 
 array-share-prefix-job : tie.Need-array-share-prefix-job

@@ -8,7 +8,7 @@ use lib.ListN.{length, take}
 use lib.Seq.{take-all}
 use Rattle.table.specs.layouts.Layouts.{layoutsFor}
 use Rattle.problem.specs.order.Choices.{Choice, attempt, improve}
-use Rattle.problem.specs.order.Inner.{view}
+use Rattle.problem.specs.order.View.{view}
 use Rattle.problem.specs.Problems.{Problem, choiceOf, within}
 use Rattle.walk.specs.node.States.{listOf, Asks, At}
 use Rattle.walk.proofs.node.Nodes.{layouts-turn}

@@ -2,7 +2,7 @@ use mathlib.Core.Path.{sym}
 use Prim.Native.Nat.{_<_}
 use borrow.Author.Needs.{needs}
 use native.Mathlib.Omega.{arith}
-use Rattle.problem.specs.order.Inner.{view}
+use Rattle.problem.specs.order.View.{view}
 use Rattle.near_misses.specs.misses.Columns.{missedAtLeast}
 use Rattle.walk.specs.node.States.{listOf}
 use Rattle.near_misses.proofs.near_offer.Near.{alone-far}

@@ -7,7 +7,7 @@ use Prim.Native.Nat.{_+_, _<_}
 use native.Mathlib.Omega.{arith}
 use lib.ListN.{length-append}
 use lib.Seq.{length-take-le}
-use Rattle.problem.specs.order.Inner.{view}
+use Rattle.problem.specs.order.View.{view}
 use Rattle.problem.proofs.Skips.{cut-depth}
 use Rattle.problem.proofs.pruned.Walk.{by-skip, by-bound}
 use Rattle.near_misses.specs.misses.Columns.{missedAtLeast}

@@ -13,7 +13,7 @@ use lib.ListN.{length, getD}
 use Rattle.logic.proofs.Members.{member-at}
 use Rattle.gate.specs.Gates.{targetOf}
 use Rattle.problem.specs.order.Choices.{Choice, improve}
-use Rattle.problem.specs.order.Inner.{view}
+use Rattle.problem.specs.order.View.{view}
 use Rattle.problem.specs.Problems.{Problem, here, within}
 use Rattle.problem.specs.pruned.Pruned.{branches, triedUnder, triedBy}
 use Rattle.problem.proofs.pruned.Listing.{pruned-zero}

@@ -1,10 +1,8 @@
--- The rules in order. A circuit that keeps the first two has at least 3 bytes and 3 or 4 data wires, as the later rules require.
+-- The rules in order. The rest is looked at only where a circuit keeps the first two.
 use mathlib.Core.Path.{sym, _∙_}
 use borrow.Author.Tests.{not-true, not-false}
 use borrow.Author.Needs.{needs}
 use Rattle.record.specs.circuit_rules.CircuitRules.{circuitCode}
-use Rattle.record.specs.circuit_rules.Inner.{circuitRest}
-use Rattle.record.proofs.circuit_rules.Sound.{long-enough, data-cases}
 use Rattle.record.proofs.circuit_rules.circuit_code.Statement.{statement}
 use Rattle.record.proofs.circuit_rules.circuit_code.Tie as tie
 
@@ -21,22 +19,13 @@ returns-2 c =
     )
 
 circuit-rest-requires : tie.Need-circuit-rest-requires
-circuit-rest-requires c κs =
-    let s = c .before .before .before .before .before in (
-      long-enough (s .args .c .now)
-          (sym (c .before .before .before .circuit-length-ok .ensures) ∙ not-false _ (c .before .before .if1 .left)),
-      data-cases (s .args .c .now) (sym (c .before .shape-ok .ensures) ∙ not-false _ (c .if2 .left)),
-    )
+circuit-rest-requires c κs = (
+  sym (c .before .before .before .circuit-length-ok .ensures) ∙ not-false _ (c .before .before .if1 .left),
+  sym (c .before .shape-ok .ensures) ∙ not-false _ (c .if2 .left),
+)
 
 returns-3 : tie.Need-returns-3
-unfolding circuitCode circuitRest
-returns-3 c =
-    let p = c .before in
-    rw (
-      sym (p .before .before .before .circuit-length-ok .ensures) ∙ not-false _ (p .before .before .if1 .left),
-      sym (p .before .shape-ok .ensures) ∙ not-false _ (p .if2 .left),
-    )
-    (c .circuit-rest .ensures)
+returns-3 c = c .circuit-rest .ensures
 
 pub circuit-code-spec : {M : Type 1} → statement M
 circuit-code-spec =

@@ -8,12 +8,12 @@ use Rattle.revlib_reader.proofs.gate_lines.Lines.{at-end, at-gate, at-o
 use Rattle.revlib_reader.proofs.gate_lines.line_at.Statement.{statement}
 use Rattle.revlib_reader.proofs.gate_lines.line_at.Tie as tie
 
-abbrev start : tie.After-first-word → tie.Start
+abbrev start : tie.After-opener-at → tie.Start
 start o = o .before .before .before
 
-told : (o : tie.After-first-word) (v : Opener) → o .first-word .result ≡ v → opening (drop (start o .args .at) (start o .args .s .now)) ≡ v
+told : (o : tie.After-opener-at) (v : Opener) → o .opener-at .result ≡ v → opening (drop (start o .args .at) (start o .args .s .now)) ≡ v
 unfolding openerOf
-told o v h = sym (o .first-word .ensures) ∙ h
+told o v h = sym (o .opener-at .ensures) ∙ h
 
 gate-line-requires : tie.Need-gate-line-requires
 gate-line-requires c κs =

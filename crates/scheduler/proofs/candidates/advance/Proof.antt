@@ -5,7 +5,7 @@ use borrow.Author.Tests.{not-true, not-false}
 use borrow.Author.Needs.{needs}
 use lib.ListN.{length}
 use lib.Seq.{length-take-le}
-use Rattle.scheduler.specs.candidates.Inner.{digitsAt}
+use Rattle.scheduler.specs.candidates.Left.{digitsAt}
 use Rattle.scheduler.proofs.candidates.Advancing.{to-layout, to-list, to-length, to-end}
 use Rattle.scheduler.proofs.candidates.advance.Statement.{statement}
 use Rattle.scheduler.proofs.candidates.advance.Tie as tie

@@ -5,7 +5,7 @@ use native.Mathlib.Omega.{arith}
 use borrow.Author.Needs.{needs}
 use lib.ListN.{length, getD, take, length-set}
 use lib.Seq.{length-take-le, getD-take, take-all}
-use Rattle.scheduler.specs.candidates.Inner.{chosen}
+use Rattle.scheduler.specs.candidates.Left.{chosen}
 use Rattle.scheduler.proofs.candidates.Odometer.{length-chosen, chosen-at}
 use Rattle.scheduler.proofs.candidates.Digits.{filled}
 use Rattle.scheduler.proofs.candidates.gates_at.Statement.{statement}

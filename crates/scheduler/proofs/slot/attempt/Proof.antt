@@ -1,10 +1,10 @@
 use mathlib.Core.Path.{ap, ap₂, _∙_}
 use borrow.Author.Needs.{needs}
 use Rattle.problem.specs.order.Choices as choices
-use Rattle.problem.specs.order.Inner.{view}
+use Rattle.problem.specs.order.View.{view}
 use Rattle.problem.specs.Problems.{choiceOf, good}
 use Rattle.outcomes.specs.Outcomes.{problemOver, problemOf}
-use Rattle.scheduler.specs.candidates.Inner.{current}
+use Rattle.scheduler.specs.candidates.Left.{current}
 use Rattle.scheduler.proofs.slot.attempt.Statement.{statement}
 use Rattle.scheduler.proofs.slot.attempt.Tie as tie
 

@@ -6,7 +6,7 @@ use borrow.Author.Needs.{needs}
 use lib.ListN.{length, take}
 use lib.Seq.{length-take-le}
 use Rattle.problem.specs.order.Choices.{keep}
-use Rattle.problem.specs.order.Inner.{view}
+use Rattle.problem.specs.order.View.{view}
 use Rattle.scheduler.proofs.slot.Trying.{passed-over, offered, mine}
 use Rattle.scheduler.proofs.slot.consider.Statement.{statement}
 use Rattle.scheduler.proofs.slot.consider.Tie as tie

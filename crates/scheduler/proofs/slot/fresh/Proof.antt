@@ -1,6 +1,7 @@
 use mathlib.Core.Path.{refl}
 use borrow.Author.Needs.{needs}
-use Rattle.scheduler.proofs.slot.Slots.{job-short, posted}
+use Rattle.record.proofs.Long.{job-short}
+use Rattle.scheduler.proofs.slot.Slots.{posted}
 use Rattle.scheduler.proofs.slot.fresh.Statement.{statement}
 use Rattle.scheduler.proofs.slot.fresh.Tie as tie
 

@@ -8,7 +8,7 @@ use lib.ListN.{take}
 use Rattle.gate.specs.Gates.{gatesFor}
 use Rattle.gate.proofs.Tables.{gates-most}
 use Rattle.record.specs.job_fields.Jobs.{wires}
-use Rattle.scheduler.specs.candidates.Inner.{chosen, digitsAt}
+use Rattle.scheduler.specs.candidates.Left.{chosen, digitsAt}
 use Rattle.scheduler.proofs.slot.Counts.{shape}
 use Rattle.scheduler.proofs.slot.path_at.Statement.{statement}
 use Rattle.scheduler.proofs.slot.path_at.Tie as tie

@@ -4,7 +4,7 @@ use mathlib.Core.Bool.{true≢false}
 use Prim.Native.Nat.{_-_, _≤_}
 use native.Mathlib.Omega.{arith}
 use borrow.Author.Needs.{needs}
-use Rattle.problem.specs.order.Inner.{view}
+use Rattle.problem.specs.order.View.{view}
 use Rattle.problem.specs.Problems.{Problem}
 use Rattle.problem.specs.Inner.{Dearer, Shortest}
 use Rattle.problem.proofs.Limits.{final, found-cost}

@@ -3,7 +3,7 @@ use borrow.Author.Needs.{needs}
 use mathlib.Core.Path.{sym, _∙_}
 use native.Mathlib.Omega.{arith}
 use borrow.Author.Tests.{ltb-true}
-use Rattle.problem.specs.order.Inner.{view}
+use Rattle.problem.specs.order.View.{view}
 use Rattle.walk.proofs.node.Pruning.{enough-spent, enough-heavy, enough-gates}
 use Rattle.walk.proofs.offer.affordable.Statement.{statement}
 use Rattle.walk.proofs.offer.affordable.Tie as tie

@@ -1,5 +1,5 @@
 use borrow.Author.Needs.{needs}
-use Rattle.problem.specs.order.Inner.{view}
+use Rattle.problem.specs.order.View.{view}
 use Rattle.problem.proofs.order.First.{attempt-not}
 use Rattle.problem.proofs.order.Held.{dearer-left}
 use Rattle.problem.specs.Problems.{within}

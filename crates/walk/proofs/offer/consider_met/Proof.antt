@@ -1,7 +1,7 @@
 use mathlib.Core.Path.{sym}
 use native.Mathlib.Omega.{arith}
 use borrow.Author.Needs.{needs}
-use Rattle.problem.specs.order.Inner.{view}
+use Rattle.problem.specs.order.View.{view}
 use Rattle.walk.proofs.node.Pruning.{here-lost}
 use Rattle.walk.proofs.offer.consider_met.Statement.{statement}
 use Rattle.walk.proofs.offer.consider_met.Tie as tie

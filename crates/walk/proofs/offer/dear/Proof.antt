@@ -4,7 +4,7 @@ use mathlib.Core.Bool.{true, false≢true}
 use Prim.Native.Nat.{_<_}
 use native.Mathlib.Omega.{arith}
 use borrow.Author.Tests.{ltb-true, not-false}
-use Rattle.problem.specs.order.Inner.{view}
+use Rattle.problem.specs.order.View.{view}
 use Rattle.problem.proofs.Skips.{cut-limit, cut-cost, cut-gates}
 use Rattle.walk.proofs.offer.dear.Statement.{statement}
 use Rattle.walk.proofs.offer.dear.Tie as tie

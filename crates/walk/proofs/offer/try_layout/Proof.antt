@@ -6,7 +6,7 @@ use borrow.Author.Tests.{not-true, not-false}
 use lib.Dec.{leb}
 use Rattle.logic.specs.Rules.{both}
 use Rattle.problem.specs.order.Choices.{keep}
-use Rattle.problem.specs.order.Inner.{view}
+use Rattle.problem.specs.order.View.{view}
 use Rattle.problem.proofs.order.First.{attempt-not}
 use Rattle.problem.specs.Problems.{Problem, choiceOf, within}
 use Rattle.walk.specs.node.States.{listOf, Asks, At}

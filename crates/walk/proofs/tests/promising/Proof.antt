@@ -9,7 +9,7 @@ use native.Mathlib.Omega.{arith}
 use borrow.Author.Tests.{not-true}
 use lib.ListN.{length-append}
 use lib.Seq.{length-take-le}
-use Rattle.problem.specs.order.Inner.{view}
+use Rattle.problem.specs.order.View.{view}
 use Rattle.problem.proofs.Skips.{cut-depth}
 use Rattle.problem.proofs.pruned.Walk.{by-skip, by-bound}
 use Rattle.outputs.specs.Owed.{stuck}

@@ -2,6 +2,8 @@
 // record in the answer buffer, its length and measures, and the number of wanted bits that it misses: 0 exactly where `search` finds a
 // circuit, and then both give the same record. There is always such a circuit, so only the job's own checks and 13 refuse
 // (proofs/Promises.antt).
+#![tactic(auto)]
+
 ghost use Rattle.std.specs.Prelude.{◌≡◌, ◌≤◌, length};
 ghost use Rattle.record.specs.JobRules.{job_code};
 ghost use Rattle.record.specs.job_fields.Jobs.{data_wires, rows};
@@ -18,14 +20,14 @@ use problem::order::Best;
 use record::call_codes;
 
 // The answer: a refusal code, or the record's length, its measures, and the number of wanted bits missed.
-#[derive(Drop)]
+#[derive(Clone, Copy)]
 pub enum Nearest {
     Refused(u8),
     Found(usize, Measures, usize),
 }
 
 // The closest choice, and the number of wanted bits that it misses.
-#[derive(Drop)]
+#[derive(Clone, Copy)]
 struct Near {
     misses: usize,
     best: Best,

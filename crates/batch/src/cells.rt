@@ -6,7 +6,7 @@ ghost use Rattle.batch.specs.cells.Batches.{batch_code};
 use crate::cutting;
 
 // A batch's answer: a refusal code, or the number of jobs.
-#[derive(Drop)]
+#[derive(Clone, Copy)]
 pub enum Batched {
     Refused(u8),
     Jobs(usize),

@@ -6,7 +6,7 @@ ghost use Rattle.batch.specs.cutting.Records.{size_said, record_size, records_of
 use record::job_fields;
 
 // The records of a batch: how many there are, and where the last one ends.
-#[derive(Drop)]
+#[derive(Clone, Copy)]
 pub struct Cut {
     pub count: usize,
     pub end: usize,
@@ -52,7 +52,7 @@ pub fn cut_off(jobs: &[u8]) -> Cut
 }
 
 // Where a record of a batch begins and ends.
-#[derive(Drop)]
+#[derive(Clone, Copy)]
 pub struct Span {
     pub start: usize,
     pub end: usize,

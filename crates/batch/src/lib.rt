@@ -1,6 +1,8 @@
 // A batch: up to 64 job records back to back, all searched by the call `search_all`. Each job has an answer cell of 15 bytes and a status
 // byte of its own, which end as the call `search` on that job alone would leave them: the record and 0, or the cell untouched and the
 // refusal code. A caller gets the number of jobs; or 26 or 27, and then nothing is written.
+#![tactic(auto)]
+
 pub mod cells; // the rules of a batch, what it leaves in each cell and status byte, and the theorems on both
 pub mod cutting; // the records of a batch, cut off one after the other
 

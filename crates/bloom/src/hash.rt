@@ -4,7 +4,7 @@ ghost use Rattle.bloom.specs.hash.Reach.{share_of, shares_of, part_of};
 
 // The description of a filter, kept beside its bits: which states are within reach of what is wanted. It holds those within `radius` gates,
 // in `size` bits; it looks at these `rows` only, and has a factor for each wire's share of a hash.
-#[derive(Drop)]
+#[derive(Clone, Copy)]
 pub struct Reach {
     pub radius: usize,
     pub size: u32,

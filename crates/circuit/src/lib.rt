@@ -3,6 +3,8 @@
 // - `reversal`: a list taken backwards; laws only.
 // - `run`: running a list on a value, forwards and backwards.
 // - `timing`: ready times of the wires, and the depth.
+#![tactic(auto)]
+
 pub mod measures;
 pub mod reversal;
 pub mod run;
@@ -14,7 +16,7 @@ ghost use Rattle.circuit.specs.Measure.{weight_for, weight_of, cost};
 use gate::Kind;
 
 // A price, or a duration, for each kind of gate.
-#[derive(Drop)]
+#[derive(Clone, Copy)]
 pub struct Weights {
     pub not: u8,
     pub cnot: u8,

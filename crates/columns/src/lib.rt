@@ -1,12 +1,14 @@
 // States and tables as bit-sliced columns: one word for each wire, and bit x of it is the wire's value in row x. What a table wants of an
 // output is kept the same way, so that one XOR and one AND compare all rows at once.
+#![tactic(auto)]
+
 pub mod table_columns; // the columns that a table wants, and those of the wires before the first gate
 
 ghost use Rattle.std.specs.Prelude.{◌≡◌, ◌<◌, get_or};
 ghost use Rattle.columns.specs.Wanted.{misses, fits, met, all_rows, dirt, tidy, reached};
 
 // What a table wants of each output: in `care` the rows that want a bit of it, in `value` the bits that they want.
-#[derive(Drop)]
+#[derive(Clone, Copy)]
 pub struct Wanted {
     pub care: [u16; 4],
     pub value: [u16; 4],

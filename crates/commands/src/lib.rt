@@ -5,6 +5,8 @@
 // - `compare`: `gazbolk compare`;
 // - `rewrite`: `gazbolk rewrite`;
 // - `closest`: `gazbolk closest`.
+#![tactic(auto)]
+
 pub mod closest;
 pub mod compare;
 pub mod program;

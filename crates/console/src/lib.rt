@@ -4,6 +4,8 @@
 // - `output`: texts and numbers printed;
 // - `slot_lines`: the answer of a search as lines, with the ready times of what was found;
 // - `data_lines`: for the test programs, the lines of a data file, their words, and the bytes that a word writes in hexadecimal.
+#![tactic(auto)]
+
 pub mod data_lines;
 pub mod output;
 pub mod slot_lines;

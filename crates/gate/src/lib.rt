@@ -2,6 +2,8 @@
 // byte is lawful and decodes it into target and kind.
 // - `gate_tables`: the constant tables of lawful gates.
 // - `step`: one gate applied to a value of the wires.
+#![tactic(auto)]
+
 pub mod gate_tables;
 pub mod step;
 
@@ -11,7 +13,7 @@ ghost use Rattle.std.specs.Int.Count.{ones};
 ghost use Rattle.logic.specs.Lists.{all_of};
 
 // The kind of a gate, by its number of controls. Each case carries the control wires, lowest first.
-#[derive(Drop)]
+#[derive(Clone, Copy)]
 pub enum Kind {
     Not,
     Cnot(usize),
@@ -20,7 +22,7 @@ pub enum Kind {
 }
 
 // A decoded gate.
-#[derive(Drop)]
+#[derive(Clone, Copy)]
 pub struct Gate {
     pub target: usize,
     pub kind: Kind,

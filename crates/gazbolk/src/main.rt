@@ -2,6 +2,8 @@
 // program has no exit status in Rattle, so the first word that it prints says how it went.
 //
 // - `arguments`: the words, the files that they name, and the usage.
+#![tactic(auto)]
+
 mod arguments;
 
 ghost use Rattle.std.specs.Prelude.{◌<◌, ◌≤◌, length};

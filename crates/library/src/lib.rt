@@ -1,6 +1,8 @@
 // Calls with a library, a caller's own gates, whose prices and durations take the place of the job's. `search_with` finds the cheapest
 // circuit made of these gates alone; `verify_with` judges a circuit, all of whose gates must be listed. A caller gets what `search` and
 // `verify` return, with three more refusal codes: 29 and 30 for the library, 31 for a gate that it does not list.
+#![tactic(auto)]
+
 pub mod entries; // a library's bytes as entries, and their checks
 pub mod entry_measures; // the cost and the ready times of a gate list by a library
 pub mod calls; // `verify_with`, and what `search_with` is made of

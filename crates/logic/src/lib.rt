@@ -1,6 +1,8 @@
 // What every other crate stands on. The code: rules as Booleans and the code of the first rule broken, so that a chain of checks is one
 // expression without a branch and its proof is a rewrite; reads that give 0 past the end; arrays of five cells by value. The definitions
 // in specs/ and the laws in proofs/: rules, lists, bits, answers of a call, words of a text.
+#![tactic(auto)]
+
 ghost use Rattle.std.specs.Prelude.{◌≡◌, min, get_or, set};
 ghost use Rattle.logic.specs.Rules.{both, either, implies, pick, rule, and_then};
 

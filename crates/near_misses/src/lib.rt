@@ -2,6 +2,8 @@
 //
 // misses: how many wanted bits columns miss. fewest: a lower bound on the misses of every list that goes on from a node. near_offer: a list
 // offered with its layouts, and the tests of a gate at a node. near_walk: the depth-first walk.
+#![tactic(auto)]
+
 pub mod fewest;
 pub mod misses;
 pub mod near_offer;

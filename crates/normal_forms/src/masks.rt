@@ -8,7 +8,7 @@ ghost use Rattle.normal_forms.specs.masks.Words.{no_masks, stepped};
 use crate::words;
 
 // `sleep`: the gates that could have stood earlier (N3). `cancel`: the gates that would undo an earlier one (N2).
-#[derive(Drop)]
+#[derive(Clone, Copy)]
 pub struct Masks {
     pub sleep: [u32; 5],
     pub cancel: [u32; 5],

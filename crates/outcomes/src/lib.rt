@@ -2,6 +2,8 @@
 // The solver is not called here, so that a crate which only tells of answers need not depend on it. `own_tables` gives a job's gates with
 // their prices and durations, `measures_of` the measures of a list, and `tell` writes a choice to the answer buffer. Theorems: demand 3 in
 // its own words (proofs/Facts.antt), and that search and verify agree (proofs/Verified.antt).
+#![tactic(auto)]
+
 pub mod preflight; // jobs that parity rules out before any search, and the price or duration of each gate
 
 ghost use Rattle.std.specs.Prelude.{◌≡◌, ◌≤◌, length, take};
@@ -19,14 +21,14 @@ use problem::order::Best;
 use record::{job_fields, writing};
 
 // A search's answer: a refusal code, or the length of the record that was written and its measures.
-#[derive(Drop)]
+#[derive(Clone, Copy)]
 pub enum Searched {
     Refused(u8),
     Found(usize, Measures),
 }
 
 // Three tables of `count` entries: gates, the price of each gate, and its duration. Later entries are unused.
-#[derive(Drop)]
+#[derive(Clone, Copy)]
 pub struct Tables {
     pub count: usize,
     pub gates: [u8; 75],

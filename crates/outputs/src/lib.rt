@@ -1,5 +1,7 @@
 // The outputs that a state still misses, and which next gates can keep up with them. A gate changes only its target's column, so an output
 // that is missed on every wire takes a gate of its own. So does the ancilla if it is not 0.
+#![tactic(auto)]
+
 pub mod plan; // what a state says of the next gates on each target, worked out once for each node
 pub mod product_step; // what a gate does to the columns, read from the product table
 pub mod product_table; // the products of all control masks in one table

@@ -12,7 +12,7 @@ use columns::Wanted;
 
 // A hexadecimal digit for each target: in `sets` the outputs that are alone for it, a bit each; in `sizes` how many they are, the ancilla
 // counted in where it is spoilt for it. `lost` counts what is missed on every wire, the ancilla included.
-#[derive(Drop)]
+#[derive(Clone, Copy)]
 pub struct Plan {
     pub sets: u32,
     pub sizes: u32,

@@ -2,6 +2,8 @@
 // - `inverting`: inversions of a table, counted modulo 2.
 // - `odd_tables`: why gates of at most two controls cannot realize an odd table on four wires without an ancilla; theorems only.
 // - `permuting`: whether a table is a full permutation.
+#![tactic(auto)]
+
 pub mod inverting;
 pub mod odd_tables;
 pub mod permuting;
@@ -13,7 +15,7 @@ ghost use Rattle.parity.specs.Parity.{is_odd, table_parity, parity_of, parity_an
 use record::job_fields;
 
 // What `parity` answers: the code of the first rule that the job breaks, or the parity of its table.
-#[derive(Drop)]
+#[derive(Clone, Copy)]
 pub enum TableParity {
     Refused(u8),
     Even,

@@ -2,6 +2,8 @@
 // made a job for the search; the window yields where the search finds cheaper gates that do the same. The leftmost window that yields is
 // replaced by what was found, and so on until none yields. A caller gets the new number of gates, the list in its own buffer with the bytes
 // freed at the end set to 0; or a refusal code, 32 to 34, with the list as it was.
+#![tactic(auto)]
+
 pub mod listing; // what needs no search: the rules of a list, the job of a window, and a window replaced
 pub mod windows; // definitions and theorems: when a window yields, and what a list becomes
 
@@ -17,14 +19,14 @@ use crate::windows::Prices;
 use outcomes::Searched;
 
 // The answer: a refusal code, or how many gates the list has now.
-#[derive(Drop)]
+#[derive(Clone, Copy)]
 pub enum Rewritten {
     Refused(u8),
     Gates(usize),
 }
 
 // What the search found for a window: whether it is cheaper than the window, and its record, whose `len` gates begin at byte 3.
-#[derive(Drop)]
+#[derive(Clone, Copy)]
 pub struct Offer {
     pub cheaper: bool,
     pub len: usize,
@@ -33,7 +35,7 @@ pub struct Offer {
 
 // The first window that yields: it begins at gate `at`, and the `len` gates from byte 3 on of the record `bytes` replace it. Where no
 // window yields, `found` is false.
-#[derive(Drop)]
+#[derive(Clone, Copy)]
 pub struct Hit {
     pub found: bool,
     pub at: usize,

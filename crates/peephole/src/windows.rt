@@ -2,7 +2,7 @@
 // (proofs/windows/Promises.antt). The only code is the struct of prices.
 
 // The prices of a NOT, a CNOT and a Toffoli.
-#[derive(Drop)]
+#[derive(Clone, Copy)]
 pub struct Prices {
     pub not: u8,
     pub cnot: u8,

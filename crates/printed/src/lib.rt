@@ -8,6 +8,8 @@
 // - `differences`: the lines of `gazbolk compare`;
 // - `misses`: what `gazbolk closest` prints;
 // - `rewriting`: what `gazbolk rewrite` prints.
+#![tactic(auto)]
+
 pub mod batch_parts;
 pub mod differences;
 pub mod files;

@@ -6,6 +6,8 @@
 // - `job_fields`: the fields of a job, and the wires of either record.
 // - `pair_codes`: the refusal codes of calls that take a job and a circuit: measuring and verifying.
 // - `writing`: a circuit record written into a buffer.
+#![tactic(auto)]
+
 pub mod call_codes;
 pub mod circuit_fields;
 pub mod circuit_rules;
@@ -21,7 +23,7 @@ ghost use Rattle.record.specs.Answers.{checkedAnswer, checkOf};
 use crate::circuit_rules::circuit_code;
 
 // What a check answers: the code of the first rule broken, or that there is none.
-#[derive(Drop)]
+#[derive(Clone, Copy)]
 pub enum Checked {
     Refused(u8),
     Sound,

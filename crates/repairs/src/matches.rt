@@ -6,7 +6,7 @@ ghost use Rattle.repairs.specs.matches.Inner.{others_of, hit_bit, hits_of, lack_
 use columns::Wanted;
 
 // What a wire lacks of an output: a product that is `rows` in the rows that care. Bit i of `allowed` says whether product i will do.
-#[derive(Drop)]
+#[derive(Clone, Copy)]
 pub struct Lack {
     pub allowed: u16,
     pub care: u16,

@@ -5,6 +5,8 @@
 // - `sentences`: the sentences of the numbers of libraries, of rewriting, and of the other calls;
 // - `refusal`: the two lines of a refusal;
 // - `pass`: the two lines of a pass, and the report on an answer of `verify`.
+#![tactic(auto)]
+
 pub mod meanings;
 pub mod pass;
 pub mod refusal;

@@ -6,7 +6,7 @@ ghost use Rattle.revlib_reader.specs.gate_lines.Tokens.{opener_of, line_of, gate
 use crate::{gate_words, keywords};
 
 // What a line begins with: the `.end` that ends the text, the first word of a gate line with its number of letters, or neither.
-#[derive(Drop)]
+#[derive(Clone, Copy)]
 pub enum Opener {
     End,
     Gate(usize),
@@ -14,7 +14,7 @@ pub enum Opener {
 }
 
 // A line of the body: a gate line with its gate byte and its length, the end, or a departure from the form.
-#[derive(Drop)]
+#[derive(Clone, Copy)]
 pub enum Line {
     Gate(u8, usize),
     End,

@@ -13,7 +13,7 @@ ghost use Rattle.revlib_reader.specs.heading.Inner.{opening, letters_line, closi
 use crate::{gate_words, keywords};
 
 // A heading: whether it is in order, the declared letters, the number of wires and ancillas, and where the gate lines begin.
-#[derive(Drop)]
+#[derive(Clone, Copy)]
 pub struct Heading {
     pub sound: bool,
     pub letters: [u8; 5],

@@ -4,6 +4,8 @@
 // - `heading`: all lines before the first gate: `.version`, `.numvars`, `.variables`, `.constants`, `.begin`.
 // - `keywords`: fixed byte strings compared with the start of a text: the keywords, a whole gate line, `.end`.
 // - `reader`: the reader with its place in the text, through which heading and gate lines are read one after the other.
+#![tactic(auto)]
+
 pub mod gate_lines;
 pub mod gate_words;
 pub mod heading;
@@ -19,14 +21,14 @@ use record::writing;
 use table::layouts;
 
 // What `read` answers: a refusal code, or the length of the record written.
-#[derive(Drop)]
+#[derive(Clone, Copy)]
 pub enum Parsed {
     Refused(u8),
     Record(usize),
 }
 
 // What a text says: the code 0 and the data wires, ancillas and gates of a circuit, or a refusal code.
-#[derive(Drop)]
+#[derive(Clone, Copy)]
 struct Circuit {
     code: u8,
     n: usize,

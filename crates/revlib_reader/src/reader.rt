@@ -24,7 +24,7 @@ struct Step<'a> {
 }
 
 // A line, and the index behind it.
-#[derive(Drop)]
+#[derive(Clone, Copy)]
 struct Found {
     at: usize,
     line: Line,
@@ -32,7 +32,7 @@ struct Found {
 
 // What was read of a text: its heading; whether a line is still to be read; whether all lines were in order up to a closing `.end`; how
 // many gate lines there are, and the gate bytes of the first twelve.
-#[derive(Drop)]
+#[derive(Clone, Copy)]
 pub struct Text {
     pub head: Heading,
     pub going: bool,

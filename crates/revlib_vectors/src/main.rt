@@ -1,5 +1,7 @@
 // A test program of RevLib text: makes the calls that stand in data files, one to a line, and prints a line for each with its answer. A
 // call reads a text, reads it with damages, or writes the text of a record.
+#![tactic(auto)]
+
 use console::{data_lines, output};
 use revlib_reader::Parsed;
 use revlib_writer::Rendered;

@@ -1,6 +1,8 @@
 // Writes a circuit record as RevLib `.real` text. This root has the public call `write_real`.
 // - `gates`: the gate lines and `.end`, measured and written.
 // - `heading`: the lines before them, measured and written.
+#![tactic(auto)]
+
 pub mod gates;
 pub mod heading;
 
@@ -14,7 +16,7 @@ use record::{circuit_fields, circuit_rules, job_fields};
 use table::layouts;
 
 // What `write_real` answers: a refusal code; that the buffer is too short (code 13), with the length needed; or the length of the text.
-#[derive(Drop)]
+#[derive(Clone, Copy)]
 pub enum Rendered {
     Refused(u8),
     Short(usize),

@@ -7,7 +7,7 @@ ghost use Rattle.scheduler.specs.candidates.Left.{chosen, digits_at};
 
 // The place of a candidate: a list of `len` gates, each given by a digit, its index in the table of gates; and a layout, by its index among
 // those allowed.
-#[derive(Drop)]
+#[derive(Clone, Copy)]
 pub struct Place {
     pub len: usize,
     pub digits: [u8; 12],
@@ -15,7 +15,7 @@ pub struct Place {
 }
 
 // The next place; `done` where there is none.
-#[derive(Drop)]
+#[derive(Clone, Copy)]
 pub struct Next {
     pub done: bool,
     pub place: Place,

@@ -6,6 +6,8 @@
 // alone. Definitions to read, in this order: specs/slot/Slots.antt (one slot), specs/states/States.antt (eight slots, and what each call
 // does), specs/candidates/Candidates.antt (the order of trying), specs/fairness/Histories.antt (sequences of calls). The others, View,
 // Calls, Left and Inner, tie the code's structs to these.
+#![tactic(auto)]
+
 pub mod candidates; // the candidates of a problem, one after the other
 pub mod fairness; // theorems: how many turns a job takes, and its answer (no code)
 pub mod slot; // one slot: its job, the candidate to try next, and the best circuit so far
@@ -22,21 +24,21 @@ pub use crate::states::{Posting, Service, Slots, start};
 use outcomes::Searched;
 
 // The slots after `post`, and its answer.
-#[derive(Drop)]
+#[derive(Clone, Copy)]
 pub struct Posted {
     pub slots: Slots,
     pub answer: Posting,
 }
 
 // The slots after `turn`, and its answer.
-#[derive(Drop)]
+#[derive(Clone, Copy)]
 pub struct Turned {
     pub slots: Slots,
     pub answer: Service,
 }
 
 // The slots after `collect`, and its answer.
-#[derive(Drop)]
+#[derive(Clone, Copy)]
 pub struct Collected {
     pub slots: Slots,
     pub answer: Searched,

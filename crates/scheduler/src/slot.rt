@@ -26,7 +26,7 @@ use table::{agreement, cleaning, layouts};
 
 // The state of a slot. `status` is 0 for empty, 1 for working and 2 for finished. `job` begins with the job's `size` bytes, `at` is the
 // place of the candidate to try next, and `best` is the incumbent, the best circuit so far.
-#[derive(Drop)]
+#[derive(Clone, Copy)]
 pub struct SlotState {
     pub status: u8,
     pub size: usize,

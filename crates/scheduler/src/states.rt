@@ -8,21 +8,21 @@ use crate::slot;
 use crate::slot::SlotState;
 
 // Eight slots, and which of them was served last.
-#[derive(Drop)]
+#[derive(Clone, Copy)]
 pub struct Slots {
     pub states: [SlotState; 8],
     pub last: usize,
 }
 
 // The answer of `post`: a refusal code, or that the job was accepted.
-#[derive(Drop)]
+#[derive(Clone, Copy)]
 pub enum Posting {
     Refused(u8),
     Accepted,
 }
 
 // The answer of `turn`: the slot that it served, or that no slot was working.
-#[derive(Drop)]
+#[derive(Clone, Copy)]
 pub enum Service {
     Slot(usize),
     Idle,

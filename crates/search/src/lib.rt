@@ -2,6 +2,8 @@
 // gets the record's length and measures, or a refusal code, among them 14: no circuit within the limits realizes the table. Here the record
 // crates and the search crates meet. Other calls use the parts: `solve_among` searches among given gates, `first_good` among a job's own,
 // and `task_of` is a job as the solver's task.
+#![tactic(auto)]
+
 ghost use Rattle.std.specs.Prelude.{◌≡◌, ◌≤◌, length, take};
 ghost use Rattle.record.specs.JobRules.{job_code};
 ghost use Rattle.problem.specs.order.View.{view};

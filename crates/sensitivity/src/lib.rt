@@ -1,6 +1,8 @@
 // What a change of one price does to the least cost. The call `price_change` takes two jobs that are alike but for one price, both with
 // cost limit 65,535, searches both, and returns the new least cost less the old. A caller may also get a refusal code: that of a job, 38
 // for two jobs that may not be compared, or 14 where neither has a circuit.
+#![tactic(auto)]
+
 pub mod alike; // which two jobs may be compared
 pub mod difference; // the difference of two costs, with its sign
 pub mod repriced; // theorems: how far a change of one price moves the least cost (no code)
@@ -12,7 +14,7 @@ ghost use Rattle.sensitivity.specs.Calls.{change_between, price_change, change_a
 use outcomes::Searched;
 
 // The answer: a refusal code, or the new least cost less the old.
-#[derive(Drop)]
+#[derive(Clone, Copy)]
 pub enum Change {
     Refused(u8),
     By(i32),

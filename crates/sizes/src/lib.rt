@@ -3,6 +3,8 @@
 // eight values, holds the least number of gates that make the permutation. A caller gets the whole table of sizes, or 25 for a buffer of
 // another length. The table of sizes is filled breadth first. Two permutations are neighbors where one gate makes the one of the other. A
 // sweep goes over all cells once: an empty cell (255) becomes k + 1 where a neighbor's cell holds k.
+#![tactic(auto)]
+
 pub mod neighbors; // the place of a permutation's neighbor by a gate
 pub mod permutations; // definitions and theorems: permutations in dictionary order, and their least gate counts (no code)
 
@@ -15,7 +17,7 @@ ghost use Rattle.sizes.specs.Filling.{fill_of, cells_left, filled_answer};
 use gate::gate_tables;
 
 // The answer: a refusal code, or that the whole table of sizes was filled.
-#[derive(Drop)]
+#[derive(Clone, Copy)]
 pub enum Filled {
     Refused(u8),
     Whole,

@@ -1,5 +1,7 @@
 // `slots FILE`: works through the jobs of a file in eight slots that take turns, and prints the line of each job as soon as its answer is
 // collected, with the number of turns taken by then.
+#![tactic(auto)]
+
 ghost use Rattle.std.specs.Prelude.{◌≡◌, true, List, ℕ, ◌+◌, ◌≤◌, ◌<◌, length, get_or};
 ghost use Rattle.text.specs.pieces.Text.{in_front};
 ghost use Rattle.printed.specs.job_line.Lines.{line_of};
@@ -39,7 +41,7 @@ fn run_file(name: &[u8]) {
 
 // How far the work has come: the slots, the next job of the file, the first slot to try for it (8 for none), which job each
 // slot has, the turns taken, and whether all is done.
-#[derive(Drop)]
+#[derive(Clone, Copy)]
 pub struct Work {
     pub slots: Slots,
     pub next: usize,
@@ -110,7 +112,7 @@ fn post_next(jobs: &[u8], w: Work) -> Work
 }
 
 // The slots after one was collected, whether it was finished, and the length of the line that was written then.
-#[derive(Drop)]
+#[derive(Clone, Copy)]
 pub struct Finished {
     pub slots: Slots,
     pub done: bool,

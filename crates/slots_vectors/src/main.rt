@@ -1,5 +1,7 @@
 // A test program of the scheduler: runs the script of posts, turns and collects that tools/slots_vectors.py writes, and prints the answer
 // to each call. A script is a list of records of 40 bytes; byte 0 says which call a record is.
+#![tactic(auto)]
+
 ghost use Rattle.std.specs.Prelude.{◌≡◌, length};
 
 use console::{data_lines, output, slot_lines};

@@ -14,14 +14,14 @@ use problem::order::Best;
 use walk::node::{Setup, Task};
 
 // The counts of gates from `from` to `most`, both included.
-#[derive(Drop)]
+#[derive(Clone, Copy)]
 pub struct Counts {
     pub from: usize,
     pub most: usize,
 }
 
 // The costs from `from` on and below `to`.
-#[derive(Drop)]
+#[derive(Clone, Copy)]
 pub struct Costs {
     pub from: usize,
     pub to: usize,

@@ -4,6 +4,8 @@
 //
 // prospects: the lower bounds, and which filter is worth its time. deepening: rising counts of gates, and rising costs. cheaper: the search
 // below the incumbent's cost.
+#![tactic(auto)]
+
 pub mod cheaper;
 pub mod deepening;
 pub mod prospects;
@@ -24,7 +26,7 @@ use reach_filter::filter;
 use walk::node::{Least, Setup, Task};
 
 // What a search has come to: it is done, with the answer, or it has to go on to more gates.
-#[derive(Drop)]
+#[derive(Clone, Copy)]
 pub struct Outcome {
     pub done: bool,
     pub best: Best,

@@ -3,6 +3,8 @@
 // - `agreement`: whether a gate list gives every bit that the table cares about.
 // - `cleaning`: whether a gate list returns the ancilla to 0.
 // - `layouts`: final layouts, that is, which wire each output ends on.
+#![tactic(auto)]
+
 pub mod agreement;
 pub mod cleaning;
 pub mod layouts;

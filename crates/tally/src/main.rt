@@ -4,6 +4,8 @@
 //
 // - `counts`: cells counted, and the published figures;
 // - `lines`: each line as text.
+#![tactic(auto)]
+
 mod counts;
 mod lines;
 

@@ -3,6 +3,8 @@
 //
 // - `pieces`: bytes, words and decimal numbers, each laid into a buffer from an index on;
 // - `hex`: bytes in hexadecimal, laid into a buffer.
+#![tactic(auto)]
+
 pub mod hex;
 pub mod pieces;
 

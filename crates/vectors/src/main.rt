@@ -2,6 +2,8 @@
 // `main`'s own code on three files in place of standard input, and beside it that of `gazbolk search`.
 //
 // - `call_lines`: which lines are calls, and how the answers of calls are said.
+#![tactic(auto)]
+
 mod call_lines;
 
 ghost use Rattle.std.specs.Prelude.{◌≤◌, length};

@@ -2,6 +2,8 @@
 // - `rules`: the rules that verifying adds to those of measuring.
 // - `limits`: the job's limits on gates, cost and depth.
 // - `runs`: the public calls `run_forwards` and `run_backwards`.
+#![tactic(auto)]
+
 pub mod limits;
 pub mod rules;
 pub mod runs;
@@ -17,7 +19,7 @@ use circuit::measures::Measures;
 use record::{circuit_fields, job_fields, pair_codes};
 
 // What measuring and verifying answer: the code of the first rule broken, or the circuit's measures.
-#[derive(Drop)]
+#[derive(Clone, Copy)]
 pub enum Measured {
     Refused(u8),
     Within(Measures),

@@ -8,7 +8,7 @@ use circuit::run;
 use record::{call_codes, circuit_fields};
 
 // What running answers: the code of the first rule broken, or the value of the wires at the end.
-#[derive(Drop)]
+#[derive(Clone, Copy)]
 pub enum Ran {
     Refused(u8),
     Value(u8),

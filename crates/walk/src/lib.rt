@@ -3,6 +3,8 @@
 //
 // node: what a walk is given, and its nodes. advance: the node one gate further. offer: a list offered with its layouts, and bounds on its
 // cost. skip: two tests of a single gate. tests: all tests of a gate at a node, cheapest first.
+#![tactic(auto)]
+
 pub mod advance;
 pub mod node;
 pub mod offer;

@@ -5,7 +5,7 @@ use normal_forms::masks::Masks;
 
 // What a search is asked for: the wanted columns, the number of outputs, whether layouts are free (1) or not (0), the most controls of a
 // gate, and the limits.
-#[derive(Drop)]
+#[derive(Clone, Copy)]
 pub struct Task {
     pub wanted: Wanted,
     pub outputs: usize,
@@ -18,7 +18,7 @@ pub struct Task {
 
 // Lower bounds on every list that realizes the table: the least price of a gate, what a heavy gate (two or more controls) costs above it at
 // least, and how many heavy gates there must be.
-#[derive(Drop)]
+#[derive(Clone, Copy)]
 pub struct Least {
     pub low: usize,
     pub extra: usize,
@@ -26,7 +26,7 @@ pub struct Least {
 }
 
 // What a walk is given beside its slices: the task, the lower bounds, and the filter that the bits belong to.
-#[derive(Drop)]
+#[derive(Clone, Copy)]
 pub struct Setup {
     pub task: Task,
     pub least: Least,
@@ -35,7 +35,7 @@ pub struct Setup {
 
 // A gate list and what it leads to: the columns of its wires, their ready times, its cost, a lower bound on the heavy gates still to come,
 // and which gates need not come next.
-#[derive(Drop)]
+#[derive(Clone, Copy)]
 pub struct Node {
     pub columns: [u16; 5],
     pub times: [u16; 5],
@@ -47,7 +47,7 @@ pub struct Node {
 }
 
 // What a walk goes through: every list that begins with the node's and goes on by at most `remaining` gates.
-#[derive(Drop)]
+#[derive(Clone, Copy)]
 pub struct Subtree {
     pub node: Node,
     pub remaining: usize,

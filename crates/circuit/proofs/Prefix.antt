@@ -1,6 +1,6 @@
 -- No measure of a prefix exceeds that of the whole list. The depth is at most the sum of the durations.
 use mathlib.Core.List.{List, ◌++◌}
-use Prim.Native.Nat.{ℕ, ◌+◌, ◌≤◌}
+use Prim.Native.Nat.{ℕ, ◌≤◌}
 use native.Mathlib.Omega.{arith}
 use lib.ListN.{length, length-append}
 use Rattle.logic.specs.Lists.{total}

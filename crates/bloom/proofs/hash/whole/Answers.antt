@@ -1,0 +1,7 @@
+use native.Mathlib.Omega.{arith}
+use borrow.Author.Rules.{rules}
+use Rattle.bloom.proofs.hash.Sums.{part_whole}
+use Rattle.bloom.proofs.hash.whole.Goals as goal
+
+pub returns : goal.returns
+returns c = omega (arith, part_whole c.args.shares)

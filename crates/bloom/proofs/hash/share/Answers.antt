@@ -1,6 +1,3 @@
-use borrow.Author.Rules.{rules}
-use native.Mathlib.Nat.{mul-le-mul}
-use native.Mathlib.Omega.{arith}
 use mathlib.Core.Path.{refl}
 use Rattle.bloom.specs.hash.Reach.{share_of}
 use Rattle.bloom.proofs.hash.share.Goals as goal

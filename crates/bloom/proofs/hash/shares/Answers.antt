@@ -1,5 +1,4 @@
 use mathlib.Core.List.{[], ◌∷◌}
-use borrow.Author.Rules.{rules}
 use Rattle.bloom.specs.hash.Reach.{share_at, shares_of}
 use Rattle.bloom.proofs.hash.shares.Goals as goal
 

@@ -1,5 +1,4 @@
 use native.Mathlib.Omega.{arith}
-use borrow.Author.Rules.{rules}
 use Rattle.bloom.proofs.hash.Sums.{part_whole}
 use Rattle.bloom.proofs.hash.whole.Goals as goal
 

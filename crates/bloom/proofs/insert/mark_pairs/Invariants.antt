@@ -1,15 +1,11 @@
 -- The invariant: no bit was cleared, and for each share passed that is not 0, the hash less it and one before it is in.
-use mathlib.Core.Path.{◌≡◌, refl, ◌∙◌}
-use mathlib.Core.Bool.{Bool, true, false}
+use mathlib.Core.Path.{◌≡◌}
+use mathlib.Core.Bool.{true}
 use Prim.Native.Nat.{ℕ, ◌-◌, ◌≤◌, ◌<◌}
-use native.Mathlib.Omega.{arith}
-use borrow.Author.Count.{below_more}
-use borrow.Author.Rules.{rules}
 use lib.Dec.{eqb}
 use lib.ListN.{length, get_or}
 use Rattle.logic.specs.Rules.{pick}
 use Rattle.bloom.specs.bits.Places.{key_of, lit_at, Grown}
-use Rattle.bloom.proofs.hash.Sums.{part_one, part_two_le}
 use Rattle.bloom.proofs.insert.mark_pairs.Given as goal
 
 abbrev pub invariant-loop-a : goal.invariant-loop-a

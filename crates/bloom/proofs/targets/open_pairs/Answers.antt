@@ -2,7 +2,6 @@
 use mathlib.Core.Path.{◌≡◌, ap, ◌∙◌}
 use Prim.Native.Nat.{ℕ, ◌+◌, ◌*◌}
 use native.Mathlib.Omega.{arith}
-use borrow.Author.Rules.{rules}
 use Rattle.logic.specs.Rules.{bit, some_below}
 use Rattle.logic.specs.Bit.{bit_of}
 use Rattle.logic.proofs.Counts.{bit_le}

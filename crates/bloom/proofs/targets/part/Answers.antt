@@ -1,6 +1,5 @@
 use mathlib.Core.Path.{◌≡◌, sym, ap}
 use native.Mathlib.Omega.{arith}
-use borrow.Author.Rules.{rules}
 use Rattle.bloom.specs.hash.Reach.{part_of}
 use Rattle.bloom.proofs.hash.Sums.{part_same, part_one, part_two}
 use Rattle.bloom.proofs.targets.part.Goals as goal

@@ -4,7 +4,6 @@ use mathlib.Core.Bool.{Bool, true, false}
 use mathlib.Core.List.{List}
 use Prim.Native.Nat.{ℕ, ◌+◌, ◌/◌, ◌<◌}
 use native.Mathlib.Omega.{arith}
-use borrow.Author.Rules.{rules}
 use borrow.Author.Tests.{le-leb, lt-leb}
 use lib.Dec.{leb}
 use lib.ListN.{length}
@@ -15,8 +14,7 @@ use Rattle.bloom.specs.declared.hash.Reach.{Reach}
 use Rattle.bloom.specs.hash.Reach.{shares_of, part_of, held, open_on}
 use Rattle.bloom.specs.bits.Places.{key_of, lit_at}
 use Rattle.bloom.proofs.hash.Words.{spelt}
-use Rattle.bloom.proofs.targets.open_wires.Statement.{statement}
-use Rattle.bloom.proofs.targets.open_wires.Tie as tie
+use Rattle.bloom.proofs.targets.open_wires.Goals as goal
 
 -- every wire
 all_open : (w : ℕ) → w < 5 → bit_of w 31 ≡ bit true
@@ -37,32 +35,27 @@ module _ (bits : List ℕ) (none : length bits ≡ 0) where
       by_radius false true = some_at (held bits r.size ss w) 5 0 (omega arith) (lit (key_of r.size (part_of ss w 0)))
       by_radius false false = refl
 
-returns : tie.Need-returns
-returns c = λ w l.
-    let a = c.before.before.args in
-    all_open w l ∙ ap bit (sym (open_all a.bits.now c.if1.true a.reach (shares_of a.reach a.columns) a.left w))
+pub returns-then-bits-eq0 : goal.returns-then-bits-eq0
+returns-then-bits-eq0 c =
+    λ w l.
+    all_open w l ∙ ap bit (sym (open_all c.args.bits.now c.if-bits-eq0.true c.args.reach (shares_of c.args.reach c.args.columns) c.args.left w))
 
-returns-2 : tie.Need-returns-2
+pub returns-then-left-radius : goal.returns-then-left-radius
 unfolding open_on
-returns-2 c = λ w l.
-    let s = c.before.before.before.before.before in
-    let a = s.args in
-    rw (le-leb a.left a.reach.radius c.before.before.if2.true)
-    (c.open-alone.ensures w l ∙ ap (λ (ss : List ℕ). bit (held a.bits.now a.reach.size ss w w)) c.before.shares.ensures)
+returns-then-left-radius c =
+    λ w l.
+    rw (le-leb c.args.left c.args.reach.radius c.if-left-radius.true)
+    (c.open_alone.ensures w l ∙ ap (λ (ss : List ℕ). bit (held c.args.bits.now c.args.reach.size ss w w)) c.shares.ensures)
 
-returns-3 : tie.Need-returns-3
+pub returns-then-left-radius-2 : goal.returns-then-left-radius-2
 unfolding open_on
-returns-3 c = λ w l.
-    let s = c.before.before.before.before.before.before in
-    let a = s.args in
-    rw (lt-leb a.left a.reach.radius (omega arith), le-leb a.left (a.reach.radius + 1) (omega arith))
-    (c.open-pairs.ensures w l ∙ ap (λ (ss : List ℕ). bit (some_below 5 (held a.bits.now a.reach.size ss w))) c.before.shares2.ensures)
+returns-then-left-radius-2 c =
+    λ w l.
+    rw (lt-leb c.args.left c.args.reach.radius (omega arith), le-leb c.args.left (c.args.reach.radius + 1) (omega arith))
+    (c.open_pairs.ensures w l ∙ ap (λ (ss : List ℕ). bit (some_below 5 (held c.args.bits.now c.args.reach.size ss w))) c.shares-then-left-radius-2.ensures)
 
-returns-4 : tie.Need-returns-4
+pub returns : goal.returns
 unfolding open_on
-returns-4 c = λ w l.
-    let a = c.before.before.before.before.args in
-    rw (lt-leb a.left a.reach.radius (omega arith), lt-leb a.left (a.reach.radius + 1) (omega arith)) (all_open w l)
-
-pub open-wires-spec : {M : Type 1} → statement M
-open-wires-spec = tie.close (tie.spec returns (λ c κs. search rules) (λ c κs. search rules) returns-2 (λ c. search rules) (λ c κs. search rules) (λ c κs. search rules) returns-3 returns-4)
+returns c =
+    λ w l.
+    rw (lt-leb c.args.left c.args.reach.radius (omega arith), lt-leb c.args.left (c.args.reach.radius + 1) (omega arith)) (all_open w l)

@@ -10,7 +10,7 @@ use lib.ListN.{length}
 use Rattle.logic.specs.Rules.{both}
 use Rattle.logic.specs.Lists.{Among}
 use Rattle.logic.proofs.Chain.{both_left, both_right, both_true, both_second}
-use Rattle.circuit.specs.Measure.{cost, depth}
+use Rattle.circuit.specs.Measure.{cost}
 use Rattle.problem.specs.order.Choices.{Choice, under}
 use Rattle.problem.proofs.order.Enumeration.{under_is, under_has}
 use Rattle.problem.specs.Problems.{Problem, choice_of, here, within}

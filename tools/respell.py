@@ -87,7 +87,7 @@ def collect():
         if not path.endswith(".antt"):
             continue
         code = without_comments(text, "--")
-        if os.path.basename(path) in ("Proof.antt", "Answers.antt", "Invariants.antt"):
+        if os.path.basename(path) == "Proof.antt":
             for m in DECLARED.finditer(code):
                 line = code[m.start() : code.find("\n", m.end())]
                 if not MADE.match(m[1]) and not TIED.search(line):

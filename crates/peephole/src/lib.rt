@@ -12,7 +12,7 @@ ghost use Rattle.table.specs.layouts.Layouts.{Width};
 ghost use Rattle.peephole.specs.windows.Windows.{better, rewritten};
 ghost use Rattle.peephole.specs.windows.Listings.{rewrite_of, list_left};
 ghost use Rattle.peephole.specs.windows.Inner.{Still};
-ghost use Rattle.peephole.specs.Answers.{rewrittenAnswer};
+ghost use Rattle.peephole.specs.Answers.{rewritten_answer};
 ghost use Rattle.peephole.specs.Inner.{offered, Scanned};
 
 use crate::windows::Prices;
@@ -129,7 +129,7 @@ fn settle(wires: usize, window: usize, prices: Prices, list: &mut [u8]) -> usize
 
 // Makes a list cheaper, a window of gates at a time, and returns its new number of gates. The bytes that it no longer needs become 0.
 pub fn rewrite(wires: u8, window: u8, prices: Prices, list: &mut [u8]) -> Rewritten
-    ensures result_value { rewrittenAnswer result ≡ rewrite_of wires window prices list.old }
+    ensures result_value { rewritten_answer result ≡ rewrite_of wires window prices list.old }
     ensures list_after { list.new ≡ list_left wires window prices list.old }
 {
     let n = logic::wide(wires);

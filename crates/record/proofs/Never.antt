@@ -8,13 +8,13 @@ use native.Mathlib.Omega.{arith}
 use lib.Dec.{eqb, ltb, leb}
 use Rattle.logic.specs.Rules.{pick}
 use Rattle.logic.specs.Answers.{Answer, refused, answered}
-use Rattle.logic.proofs.Answers.{refused-is}
+use Rattle.logic.proofs.Answers.{refused_is}
 use Rattle.logic.proofs.Chain.{rule_never, and_then_never}
 use Rattle.record.specs.JobRules.{job_length_ok, size_ok, head_ok, limit_ok, durations_ok, rows_ok, job_code}
 use Rattle.record.specs.job_fields.Jobs.{wires}
 use Rattle.record.specs.circuit_rules.CircuitRules.{circuit_code}
 use Rattle.record.specs.pair_codes.Codes.{run_code, same_wires, mark_fits, circuit_code_for, measure_code, search_code}
-use Rattle.record.specs.Answers.{checkOf}
+use Rattle.record.specs.Answers.{check_of}
 use Rattle.record.proofs.circuit_rules.Eleven.{circuit_never}
 
 pub job_never : (job : List ℕ) → job_code job ≡ 11 → ⊥
@@ -49,11 +49,11 @@ search_code_never job room =
     and_then_never 11 (job_code job) _ (job_never job) (rule_never 11 (leb 15 room) 13 0 (λ e. omega arith) (λ e. omega arith))
 
 -- `check_job` and `check_circuit`
-pub check_job_never : (job : List ℕ) → checkOf (job_code job) ≡ refused 11 → ⊥
-check_job_never job h = job_never job (refused-is (job_code job) tt 11 h)
+pub check_job_never : (job : List ℕ) → check_of (job_code job) ≡ refused 11 → ⊥
+check_job_never job h = job_never job (refused_is (job_code job) tt 11 h)
 
-pub check_circuit_never : (c : List ℕ) → checkOf (circuit_code c) ≡ refused 11 → ⊥
-check_circuit_never c h = circuit_never c (refused-is (circuit_code c) tt 11 h)
+pub check_circuit_never : (c : List ℕ) → check_of (circuit_code c) ≡ refused 11 → ⊥
+check_circuit_never c h = circuit_never c (refused_is (circuit_code c) tt 11 h)
 
 -- Answers: a refusal has one number, a value none; of two answers one is given; and a call whose checks gave `code` answers with that or,
 -- where it is 0, with x.

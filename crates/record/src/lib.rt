@@ -18,7 +18,7 @@ pub mod writing;
 ghost use Rattle.std.specs.Prelude.{◌≡◌, true, ◌<◌};
 ghost use Rattle.record.specs.JobRules.{job_length_ok, size_ok, head_ok, limit_ok, durations_ok, rows_ok, job_code};
 ghost use Rattle.record.specs.circuit_rules.CircuitRules.{circuit_code};
-ghost use Rattle.record.specs.Answers.{checkedAnswer, checkOf};
+ghost use Rattle.record.specs.Answers.{checked_answer, check_of};
 
 use crate::circuit_rules::circuit_code;
 
@@ -84,7 +84,7 @@ fn rows_ok(job: &[u8]) -> bool
 
 // The answer for the code of the first rule broken.
 fn answer(code: u8) -> Checked
-    ensures { checkedAnswer result ≡ checkOf code }
+    ensures { checked_answer result ≡ check_of code }
 {
     if code == 0 {
         Checked::Sound
@@ -120,14 +120,14 @@ pub fn job_code(job: &[u8]) -> u8
 
 // Checks a job record.
 pub fn check_job(job: &[u8]) -> Checked
-    ensures { checkedAnswer result ≡ checkOf (job_code job.now) }
+    ensures { checked_answer result ≡ check_of (job_code job.now) }
 {
     answer(job_code(job))
 }
 
 // Checks a circuit record.
 pub fn check_circuit(c: &[u8]) -> Checked
-    ensures { checkedAnswer result ≡ checkOf (circuit_code c.now) }
+    ensures { checked_answer result ≡ check_of (circuit_code c.now) }
 {
     answer(circuit_code(c))
 }

@@ -14,7 +14,7 @@ pub mod reader;
 
 ghost use Rattle.std.specs.Prelude.{◌≡◌, ◌-◌, ◌≤◌, ◌<◌, length};
 ghost use Rattle.revlib.specs.Reading.{parse, outcome_of, read_of, size_of, written};
-ghost use Rattle.revlib_reader.specs.Answers.{parsedAnswer, parsedSize};
+ghost use Rattle.revlib_reader.specs.Answers.{parsed_answer, parsed_size};
 ghost use Rattle.revlib_reader.specs.Inner.{CircuitIs};
 
 use record::writing;
@@ -75,8 +75,8 @@ fn parse(text: &[u8]) -> Circuit
 
 // Reads a `.real` text into a circuit record with plain layout, written from byte 0 of `answer`.
 pub fn read(text: &[u8], answer: &mut [u8]) -> Parsed
-    ensures result_value { parsedAnswer result ≡ size_of (read_of text.now (length answer.old)) }
-    ensures result_bound { parsedSize result ≤ 15 }
+    ensures result_value { parsed_answer result ≡ size_of (read_of text.now (length answer.old)) }
+    ensures result_bound { parsed_size result ≤ 15 }
     ensures answer_after { answer.new ≡ written (read_of text.now (length answer.old)) answer.old }
 {
     if answer.len() < 15 {

@@ -11,7 +11,7 @@ use Rattle.circuit.specs.declared.Weights.{Weights}
 use Rattle.circuit.specs.Measure.{weight_of, cost, depth}
 use Rattle.record.specs.JobRules.{job_code}
 use Rattle.record.specs.circuit_rules.CircuitRules.{circuit_code}
-use Rattle.record.specs.Answers.{checkOf}
+use Rattle.record.specs.Answers.{check_of}
 use Rattle.circuit.specs.declared.measures.Measures.{Measures}
 use Rattle.circuit.specs.measures.Measures.{ready_of}
 use Rattle.verify.specs.Calls.{measure_of, verify_of}
@@ -137,10 +137,10 @@ holds (costs gs c) = eqb (cost (weight_of sample_prices) gs) c
 holds (deep gs d) = eqb (depth (weight_of sample_durations) gs) d
 holds (has_parity job p) = gives_parity p (parity_of job)
 holds (parity_refused job n) = refused_by n (parity_of job)
-holds (job_sound job) = is_answered (checkOf (job_code job))
-holds (job_refused job n) = refused_by n (checkOf (job_code job))
-holds (circuit_sound c) = is_answered (checkOf (circuit_code c))
-holds (circuit_refused c n) = refused_by n (checkOf (circuit_code c))
+holds (job_sound job) = is_answered (check_of (job_code job))
+holds (job_refused job n) = refused_by n (check_of (job_code job))
+holds (circuit_sound c) = is_answered (check_of (circuit_code c))
+holds (circuit_refused c n) = refused_by n (check_of (circuit_code c))
 holds (runs c v f b) = both (gives_value f (forwards_of c v)) (gives_value b (backwards_of c v))
 holds (run_refused c v n) = both (refused_by n (forwards_of c v)) (refused_by n (backwards_of c v))
 holds (measures job c g k d ts) = gives_measures g k d ts (measure_of job c)

@@ -11,7 +11,7 @@ use lib.ListN.{length}
 use Rattle.logic.specs.Rules.{implies, pick}
 use Rattle.logic.specs.Lists.{all_of, total}
 use Rattle.logic.specs.Answers.{answered}
-use Rattle.logic.proofs.Answers.{answered-is}
+use Rattle.logic.proofs.Answers.{answered_is}
 use Rattle.logic.proofs.Chain.{both_parts}
 use Rattle.gate.specs.Gates.{lawful}
 use Rattle.gate.proofs.Tables.{all_widen}
@@ -74,6 +74,6 @@ module _ (job c : List ℕ) where
       → (rounded_up m.gates (wires job) ≤ m.depth) × (m.depth ≤ total (duration_of job) (gates c))
   unfolding measure_of measures_of
   measured_bounds m h =
-      let a = answered-is (measure_code job c) (measures_for job c) m h in
+      let a = answered_is (measure_code job c) (measures_for job c) m h in
       let p = measure_parts job c a.0 in
       rw a.1 (depth_lower p.0 p.1.0 p.1.1.0 p.1.1.1, depth_upper)

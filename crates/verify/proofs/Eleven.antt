@@ -4,7 +4,7 @@ use mathlib.Core.List.{List}
 use Prim.Native.Nat.{ℕ}
 use native.Mathlib.Omega.{arith}
 use Rattle.logic.specs.Answers.{refused}
-use Rattle.logic.proofs.Answers.{refused-is}
+use Rattle.logic.proofs.Answers.{refused_is}
 use Rattle.logic.proofs.Chain.{rule_never, and_then_never}
 use Rattle.circuit.specs.run.Run.{forwards}
 use Rattle.table.specs.layouts.Layouts.{allowed}
@@ -28,10 +28,10 @@ module _ (job c : List ℕ) where
 
   pub measure_never : measure_of job c ≡ refused 11 → ⊥
   unfolding measure_of
-  measure_never h = measure_code_never job c (refused-is (measure_code job c) (measures_for job c) 11 h)
+  measure_never h = measure_code_never job c (refused_is (measure_code job c) (measures_for job c) 11 h)
 
   pub verify_never : verify_of job c ≡ refused 11 → ⊥
   unfolding verify_of verify_code
   verify_never h =
       and_then_never 11 (measure_code job c) (verify_rest job c (measures_for job c)) (measure_code_never job c) (rest_never (measures_for job c))
-      (refused-is (verify_code job c) (measures_for job c) 11 h)
+      (refused_is (verify_code job c) (measures_for job c) 11 h)

@@ -8,7 +8,7 @@ use borrow.Author.Tests.{eqb-true, leb-true, eq-eqb, le-leb}
 use lib.Dec.{eqb, leb, lit<}
 use lib.ListN.{length}
 use Rattle.logic.specs.Answers.{answered}
-use Rattle.logic.proofs.Answers.{answered-with, answered-is}
+use Rattle.logic.proofs.Answers.{answered_with, answered_is}
 use Rattle.logic.proofs.Chain.{both_left, both_right, rule_kept, and_then_zero}
 use Rattle.circuit.specs.run.Run.{forwards}
 use Rattle.circuit.specs.Measure.{cost, depth}
@@ -94,6 +94,6 @@ module _ (job c : List ℕ) where
   pub pass : (m : Measures) → (verify_of job c ≡ answered m) ↔ (Passes job c × (m ≡ measures_for job c))
   unfolding verify_of
   pass m = (
-    (λ h. let a = answered-is (verify_code job c) (measures_for job c) m h in (code_passes a.0, a.1)),
-    (λ p. answered-with (verify_code job c) (measures_for job c) (passes_code p.0) ∙ ap answered (sym p.1)),
+    (λ h. let a = answered_is (verify_code job c) (measures_for job c) m h in (code_passes a.0, a.1)),
+    (λ p. answered_with (verify_code job c) (measures_for job c) (passes_code p.0) ∙ ap answered (sym p.1)),
   )

@@ -5,7 +5,7 @@ use Prim.Native.Nat.{ℕ}
 use lib.ListN.{length, get_or}
 use Rattle.logic.specs.Lists.{along}
 use Rattle.logic.specs.Answers.{answered}
-use Rattle.logic.proofs.Answers.{answered-is}
+use Rattle.logic.proofs.Answers.{answered_is}
 use Rattle.logic.proofs.Members.{spelled}
 use Rattle.gate.specs.Gates.{gate_of}
 use Rattle.circuit.specs.Measure.{hold_byte, idle, ready_times, greatest}
@@ -50,11 +50,11 @@ module _ (job c : List ℕ) where
   pub measured_ready : (m : Measures) → measure_of job c ≡ answered m → Timed (wires c) m
   unfolding measure_of
   measured_ready m h =
-      let a = answered-is (measure_code job c) (measures_for job c) m h in
+      let a = answered_is (measure_code job c) (measures_for job c) m h in
       rw a.1 (timed (price_of job) (duration_of job) c (measure_parts job c a.0).1.0)
 
   pub verified_ready : (m : Measures) → verify_of job c ≡ answered m → Timed (wires c) m
   unfolding verify_of
   verified_ready m h =
-      let a = answered-is (verify_code job c) (measures_for job c) m h in
+      let a = answered_is (verify_code job c) (measures_for job c) m h in
       rw a.1 (timed (price_of job) (duration_of job) c (code_passes job c a.0).circuit_sound_law)

@@ -13,7 +13,7 @@ use lib.Seq.{take_all}
 use Rattle.logic.specs.Rules.{rule}
 use Rattle.logic.specs.Lists.{total}
 use Rattle.logic.specs.Answers.{Answer, refused, answered}
-use Rattle.logic.proofs.Answers.{answered-is, answered-with, refused-is}
+use Rattle.logic.proofs.Answers.{answered_is, answered_with, refused_is}
 use Rattle.logic.proofs.Chain.{rule_kept, rule_never}
 use Rattle.record.specs.job_fields.Jobs.{data_wires, longer}
 use Rattle.outcomes.specs.Outcomes.{Found, search_of, written}
@@ -39,7 +39,7 @@ refused_whole jobs answers statuses code h = by_code (ℕ_discrete (batch_code j
     by_code : Dec (batch_code jobs (length answers) (length statuses) ≡ 0)
         → (answers_left jobs answers statuses ≡ answers) × (statuses_left jobs answers statuses ≡ statuses)
     by_code (yes e) =
-        let w = answered-with (batch_code jobs (length answers) (length statuses)) (count_of jobs) e in
+        let w = answered_with (batch_code jobs (length answers) (length statuses)) (count_of jobs) e in
         let z : ◌≡◌ {A = ℕ} 0 1 = cc in
         absurd (omega arith)
     by_code (no n) = let r = refusing jobs answers statuses n in (sym r.1.0, sym r.1.1)
@@ -50,13 +50,13 @@ unfolding batch_of batch_code
 batch_never jobs answers statuses h =
     rule_never 11 (all_cut jobs) 26 _ (λ e. omega arith)
     (rule_never 11 (room_ok jobs answers statuses) 27 0 (λ e. omega arith) (λ e. omega arith))
-    (refused-is (batch_code jobs answers statuses) (count_of jobs) 11 h)
+    (refused_is (batch_code jobs answers statuses) (count_of jobs) 11 h)
 
 -- A batch that is answered:
 module _ (jobs answers statuses : List ℕ) (count : ℕ) (done : batch_of jobs (length answers) (length statuses) ≡ answered count) where
   told : (batch_code jobs (length answers) (length statuses) ≡ 0) × (count ≡ count_of jobs)
   unfolding batch_of
-  told = answered-is (batch_code jobs (length answers) (length statuses)) (count_of jobs) count done
+  told = answered_is (batch_code jobs (length answers) (length statuses)) (count_of jobs) count done
 
   room : 15 * count_of jobs ≤ length answers
   room = (rooms jobs (length answers) (length statuses) told.0).0

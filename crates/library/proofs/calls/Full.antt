@@ -11,7 +11,7 @@ use lib.ListN.{length}
 use Rattle.logic.specs.Rules.{rule, and_then}
 use Rattle.logic.specs.Lists.{all_of, Among}
 use Rattle.logic.specs.Answers.{answer_of}
-use Rattle.logic.proofs.Answers.{refused-by}
+use Rattle.logic.proofs.Answers.{refused_by}
 use Rattle.logic.proofs.Chain.{both_true, and_then_zero}
 use Rattle.gate.specs.Gates.{gates_for}
 use Rattle.gate.proofs.Tables.{gates_most, lawful_among}
@@ -115,8 +115,8 @@ full_verify job c =
 
     by_code : Dec (before ≡ 0) → answer_of (and_then before rest) (measures_in lib c) ≡ answer_of (and_then before own) (measures_for job c)
     by_code (no n) =
-        ap (λ (code : ℕ). answer_of code (measures_in lib c)) (stops before rest n) ∙ refused-by before (measures_in lib c) n
-        ∙ sym (ap (λ (code : ℕ). answer_of code (measures_for job c)) (stops before own n) ∙ refused-by before (measures_for job c) n)
+        ap (λ (code : ℕ). answer_of code (measures_in lib c)) (stops before rest n) ∙ refused_by before (measures_in lib c) n
+        ∙ sym (ap (λ (code : ℕ). answer_of code (measures_for job c)) (stops before own n) ∙ refused_by before (measures_for job c) n)
     by_code (yes e) =
         let z = and_then_zero (job_code job) (circuit_code_for job c) e in
         let p = circuit_parts job c z.1 in

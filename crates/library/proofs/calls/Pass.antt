@@ -8,7 +8,7 @@ use native.Mathlib.Omega.{arith}
 use lib.Dec.{lit<}
 use Rattle.logic.specs.Lists.{all_of}
 use Rattle.logic.specs.Answers.{refused, answered}
-use Rattle.logic.proofs.Answers.{answered-with, answered-is, refused-is}
+use Rattle.logic.proofs.Answers.{answered_with, answered_is, refused_is}
 use Rattle.logic.proofs.Chain.{rule_kept, rule_never, and_then_zero, and_then_never}
 use Rattle.record.specs.JobRules.{job_code}
 use Rattle.record.specs.job_fields.Jobs.{wires}
@@ -63,8 +63,8 @@ module _ (job lib c : List ℕ) where
   pub pass_with : (m : Measures) → (verify_with job lib c ≡ answered m) ↔ (PassesWith job lib c × (m ≡ measures_in lib c))
   unfolding verify_with
   pass_with m = (
-    (λ h. let a = answered-is (verify_with_code job lib c) (measures_in lib c) m h in (code_passes a.0, a.1)),
-    (λ p. answered-with (verify_with_code job lib c) (measures_in lib c) (passes_code p.0) ∙ ap answered (sym p.1)),
+    (λ h. let a = answered_is (verify_with_code job lib c) (measures_in lib c) m h in (code_passes a.0, a.1)),
+    (λ p. answered_with (verify_with_code job lib c) (measures_in lib c) (passes_code p.0) ∙ ap answered (sym p.1)),
   )
 
   pub ready_with : (m : Measures) → verify_with job lib c ≡ answered m → Timed (wires c) m
@@ -78,4 +78,4 @@ module _ (job lib c : List ℕ) where
       and_then_never 11 (circuit_with_code job lib c) _
       (and_then_never 11 (job_with_code job lib) (circuit_code_for job c) (job_with_never job lib) (circuit_for_never job c))
       (rule_never 11 (all_of (listed lib) (gates c)) 31 _ (λ e. omega arith) (rest_never job c (measures_in lib c)))
-      (refused-is (verify_with_code job lib c) (measures_in lib c) 11 h)
+      (refused_is (verify_with_code job lib c) (measures_in lib c) 11 h)

@@ -15,7 +15,7 @@ use Rattle.peephole.specs.windows.Windows.{better, window_at, spliced, replaced}
 use Rattle.peephole.specs.windows.Listings.{ByteEach}
 use Rattle.peephole.specs.windows.Demand.{Improves, Leftmost}
 use Rattle.peephole.proofs.windows.Leftmost.{none_still, first_at, replaced_is}
-use Rattle.peephole.proofs.windows.Answers.{found-parts, found-better, better-is, better-lawful, better-short, better-same, nothing-better}
+use Rattle.peephole.proofs.windows.Answers.{found_parts, found_better, better_is, better_lawful, better_short, better_same, nothing_better}
 use Rattle.peephole.proofs.windows.Steps.{window_length, all_window}
 
 module _ (n k : ℕ) (wide : Width n) (few : k ≤ 12) (p : Prices) (small : ByteEach p) (l : List ℕ) (kept : all_of (lawful 2 n) l ≡ true) where
@@ -31,17 +31,17 @@ module _ (n k : ℕ) (wide : Width n) (few : k ≤ 12) (p : Prices) (small : Byt
 
     improving : (a : List ℕ) → better n p window ≡ some a → Improves n p window a
     improving a e =
-        let b = better-is n wide p window a e in
+        let b = better_is n wide p window a e in
         record {
-          lawful_gates = better-lawful n wide p window a b;
-          no_more = better-short n wide p window a b;
+          lawful_gates = better_lawful n wide p window a b;
+          no_more = better_short n wide p window a b;
           cheaper = b.cheaper;
-          alike = better-same n wide p window kept_window short_window a b;
+          alike = better_same n wide p window kept_window short_window a b;
         }
 
     pub nothing_improves : better n p window ≡ none → (e : List ℕ) → Improves n p window e → ⊥
     nothing_improves q e h =
-        let c = nothing-better n wide p window kept_window short_window q small e h.lawful_gates h.no_more h.alike in
+        let c = nothing_better n wide p window kept_window short_window q small e h.lawful_gates h.no_more h.alike in
         let d = h.cheaper in
         omega arith
 
@@ -56,7 +56,7 @@ module _ (n k : ℕ) (wide : Width n) (few : k ≤ 12) (p : Prices) (small : Byt
   pub is_leftmost : (m : List ℕ) → replaced (better n p) k l ≡ some m → Leftmost n k p l m
   is_leftmost m e =
       let r = replaced_is (better n p) k l m e in
-      let q = found-parts n wide p (window_at k r.place l) r.gates r.yielded in
+      let q = found_parts n wide p (window_at k r.place l) r.gates r.yielded in
       let same = sym q.1.1.0 in
       record {
         place = r.place;
@@ -76,7 +76,7 @@ module _ (n k : ℕ) (wide : Width n) (few : k ≤ 12) (p : Prices) (small : Byt
   leftmost_goes pos m s =
       let w = window_at k s.place l in
       first_at (better n p) k s.place l (gates s.found.bytes) pos s.fits (λ j b f. yields_not j f (s.none_before j b))
-      (found-better n wide p w s.found s.answer s.improves.cheaper)
+      (found_better n wide p w s.found s.answer s.improves.cheaper)
       ∙ ap (λ (x : List ℕ). some x) (sym s.made)
 
   -- and where there is none, nothing is

@@ -12,7 +12,7 @@ use lib.ListN.{length}
 use Rattle.logic.specs.Rules.{both, either}
 use Rattle.logic.specs.Lists.{all_of}
 use Rattle.logic.specs.Answers.{refused}
-use Rattle.logic.proofs.Answers.{refused-is}
+use Rattle.logic.proofs.Answers.{refused_is}
 use Rattle.logic.proofs.Chain.{both_parts, either_cases, rule_kept, rule_never}
 use Rattle.gate.specs.Gates.{lawful}
 use Rattle.circuit.specs.run.Run.{forwards}
@@ -58,7 +58,7 @@ rewrite_never n k p l h =
     rule_never 11 (sizes_ok n k) 32 _ (λ e. omega arith)
     (rule_never 11 (leb (length l) 4096) 33 _ (λ e. omega arith)
     (rule_never 11 (all_of (lawful 2 n) l) 34 0 (λ e. omega arith) (λ e. omega arith)))
-    (refused-is (rewrite_code n k l) (length (rewritten n k p l)) 11 h)
+    (refused_is (rewrite_code n k l) (length (rewritten n k p l)) 11 h)
 
 module _ (n k : ℕ) (p : Prices) (l : List ℕ) (clear : rewrite_code n k l ≡ 0) where
   abbrev new : List ℕ

@@ -20,7 +20,7 @@ use Rattle.peephole.specs.declared.windows.Prices.{Prices}
 use Rattle.peephole.specs.windows.Windows.{cost_at, window_job, cheaper_than, better, window_at, replaced, rewritten, spliced}
 use Rattle.peephole.specs.windows.Inner.{Still}
 use Rattle.peephole.proofs.windows.Leftmost.{none_still, first_at, still_resumed}
-use Rattle.peephole.proofs.windows.Answers.{better-is, better-short}
+use Rattle.peephole.proofs.windows.Answers.{better_is, better_short}
 use Rattle.peephole.proofs.windows.Steps.{window_length, falls, rewritten_onward}
 
 -- a circuit that is found has the three bytes before its gates
@@ -92,6 +92,6 @@ module _ (n k : ℕ) (wide : Width n) (p : Prices) (some_gates : 0 < k) where
 
     pub turn_short : length a ≤ k
     turn_short =
-        let b = better-short n wide p (window_at k i l) a (better-is n wide p (window_at k i l) a y) in
+        let b = better_short n wide p (window_at k i l) a (better_is n wide p (window_at k i l) a y) in
         let e = window_length k i l fits in
         omega arith

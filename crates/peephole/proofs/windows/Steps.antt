@@ -20,7 +20,7 @@ use Rattle.peephole.specs.declared.windows.Prices.{Prices}
 use Rattle.peephole.specs.windows.Windows.{weights, cost_at, better, window_at, replaced, rewritten, spliced}
 use Rattle.peephole.proofs.windows.Leftmost.{Replaced, replaced_is}
 use Rattle.peephole.proofs.windows.Repeats.{repeated_stays, repeated_keeps, ends, onward}
-use Rattle.peephole.proofs.windows.Answers.{Better, better-is, better-lawful, better-short, better-same}
+use Rattle.peephole.proofs.windows.Answers.{Better, better_is, better_lawful, better_short, better_same}
 
 -- a list in three parts: before a window, the window, and after it
 pub three_parts : (k i : ℕ) (l : List ℕ) → spliced k i (window_at k i l) l ≡ l
@@ -83,7 +83,7 @@ module _ (n k : ℕ) (wide : Width n) (p : Prices) where
     rest = drop (r.place + k) l
 
     answer : Better n wide p window r.gates
-    answer = better-is n wide p window r.gates r.yielded
+    answer = better_is n wide p window r.gates r.yielded
 
     was : front ++ (window ++ rest) ≡ l
     was = three_parts k r.place l
@@ -99,7 +99,7 @@ module _ (n k : ℕ) (wide : Width n) (p : Prices) where
     step_length =
         let a = ap length r.made ∙ length_parts front r.gates rest in
         let b = ap length (sym was) ∙ length_parts front window rest in
-        omega (arith, better-short n wide p window r.gates answer)
+        omega (arith, better_short n wide p window r.gates answer)
 
     module _ (kept : all_of (lawful 2 n) l ≡ true) where
       parts : (all_of (lawful 2 n) front ≡ true) × ((all_of (lawful 2 n) window ≡ true) × (all_of (lawful 2 n) rest ≡ true))
@@ -109,7 +109,7 @@ module _ (n k : ℕ) (wide : Width n) (p : Prices) where
       step_lawful =
           ap (all_of (lawful 2 n)) r.made
           ∙ all_parts front r.gates rest (lawful 2 n)
-          ∙ both_true parts.0 (both_true (better-lawful n wide p window r.gates answer) parts.1.1)
+          ∙ both_true parts.0 (both_true (better_lawful n wide p window r.gates answer) parts.1.1)
 
       step_same : k ≤ 12 → (v : ℕ) → v < 2 ^ n → forwards m v ≡ forwards l v
       step_same few v h =
@@ -118,7 +118,7 @@ module _ (n k : ℕ) (wide : Width n) (p : Prices) where
           let low : u < 2 ^ n = stays 2 n front v parts.0 h in
           ap (λ (x : List ℕ). forwards x v) r.made
           ∙ runs_parts front r.gates rest v
-          ∙ ap (forwards rest) (better-same n wide p window parts.1.0 short r.gates answer u low)
+          ∙ ap (forwards rest) (better_same n wide p window parts.1.0 short r.gates answer u low)
           ∙ sym (runs_parts front window rest v)
           ∙ ap (λ (x : List ℕ). forwards x v) was
 

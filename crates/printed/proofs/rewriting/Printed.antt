@@ -10,7 +10,7 @@ use lib.Seq.{take_at}
 use Rattle.logic.specs.Rules.{rule}
 use Rattle.logic.specs.Words.{bytes}
 use Rattle.logic.specs.Answers.{refused, answered}
-use Rattle.logic.proofs.Answers.{refused-by, answered-is}
+use Rattle.logic.proofs.Answers.{refused_by, answered_is}
 use Rattle.logic.proofs.Prefixes.{told_by}
 use Rattle.text.proofs.pieces.Pieces.{place_short, decimal_short, spaced_short, hex_length}
 use Rattle.reports.specs.refusal.Report.{refused_text}
@@ -51,7 +51,7 @@ module _ (head l : List ℕ) where
   module _ (count : ℕ) (x : List ℕ) (e : answered count ≡ rewrite_of n k p l) (left : x ≡ list_left n k p l) where
     both_known : (rewrite_code n k l ≡ 0) × (count ≡ length (rewritten n k p l))
     unfolding rewrite_of
-    both_known = answered-is (rewrite_code n k l) (length (rewritten n k p l)) count (sym e)
+    both_known = answered_is (rewrite_code n k l) (length (rewritten n k p l)) count (sym e)
 
     x_is : x ≡ cleared (rewritten n k p l) (length l)
     unfolding list_left
@@ -78,7 +78,7 @@ module _ (head l : List ℕ) where
 -- a list with more gates than a list may have
 long_list : (head l : List ℕ) → 4096 < length l → rewrite_text head l ≡ refused_text (rule (sizes_ok (wires_in head) (window_in head)) 32 33)
 unfolding rewrite_of rewrite_code
-long_list head l h = text_refused head l _ (rw (lt-leb (length l) 4096 h) (sym (refused-by _ (length (rewritten (wires_in head) (window_in head) (prices_in head) l)) (nonzero (sizes_ok (wires_in head) (window_in head))))))
+long_list head l h = text_refused head l _ (rw (lt-leb (length l) 4096 h) (sym (refused_by _ (length (rewritten (wires_in head) (window_in head) (prices_in head) l)) (nonzero (sizes_ok (wires_in head) (window_in head))))))
   where
     nonzero : (t : Bool) → rule t 32 33 ≡ 0 → ⊥
     nonzero true e = omega arith

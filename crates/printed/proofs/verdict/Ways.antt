@@ -9,14 +9,14 @@ use Rattle.logic.specs.Answers.{Answer, refused, answered}
 use Rattle.revlib.specs.Reading.{size_of, written}
 use Rattle.revlib_reader.specs.declared.Parsed.{Parsed}
 use Rattle.revlib_reader.specs.declared.Parsed.TheVariants.{Refused, Record}
-use Rattle.revlib_reader.specs.Answers.{parsedAnswer}
+use Rattle.revlib_reader.specs.Answers.{parsed_answer}
 
-pub when_refused : (o : Answer (List ℕ)) (r : Parsed) (code : ℕ) → parsedAnswer r ≡ size_of o → r ≡ Refused code → o ≡ refused code
+pub when_refused : (o : Answer (List ℕ)) (r : Parsed) (code : ℕ) → parsed_answer r ≡ size_of o → r ≡ Refused code → o ≡ refused code
 when_refused (refused k) (Refused x) code e h = let p : k ≡ code = cc in ap refused p
 when_refused (answered bytes) (Refused x) code e h = let z : ◌≡◌ {A = ℕ} 0 1 = cc in absurd (omega arith)
 when_refused o (Record s) code e h = let z : ◌≡◌ {A = ℕ} 0 1 = cc in absurd (omega arith)
 
-pub when_read : (o : Answer (List ℕ)) (r : Parsed) (size : ℕ) (answer out : List ℕ) → parsedAnswer r ≡ size_of o → r ≡ Record size
+pub when_read : (o : Answer (List ℕ)) (r : Parsed) (size : ℕ) (answer out : List ℕ) → parsed_answer r ≡ size_of o → r ≡ Record size
     → out ≡ written o answer → o ≡ answered (take size out)
 when_read o (Refused x) size answer out e h w = let z : ◌≡◌ {A = ℕ} 0 1 = cc in absurd (omega arith)
 when_read (refused k) (Record s) size answer out e h w = let z : ◌≡◌ {A = ℕ} 0 1 = cc in absurd (omega arith)

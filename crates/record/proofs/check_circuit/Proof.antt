@@ -1,11 +1,11 @@
 use mathlib.Core.Path.{◌∙◌, ap}
 use borrow.Author.Rules.{rules}
-use Rattle.record.specs.Answers.{checkOf}
+use Rattle.record.specs.Answers.{check_of}
 use Rattle.record.proofs.check_circuit.Statement.{statement}
 use Rattle.record.proofs.check_circuit.Tie as tie
 
 returns : tie.Need-returns
-returns c = c.answer.ensures ∙ ap checkOf c.before.circuit-code.ensures
+returns c = c.answer.ensures ∙ ap check_of c.before.circuit-code.ensures
 
 pub check-circuit-spec : {M : Type 1} → statement M
 check-circuit-spec = tie.close (tie.spec (λ c κs. search rules) (λ c κs. search rules) returns)

@@ -5,7 +5,7 @@ use Prim.Native.Nat.{ℕ}
 use native.Mathlib.Omega.{arith}
 use lib.Dec.{leb}
 use Rattle.logic.specs.Answers.{refused}
-use Rattle.logic.proofs.Answers.{refused-is}
+use Rattle.logic.proofs.Answers.{refused_is}
 use Rattle.logic.proofs.Chain.{rule_never}
 use Rattle.record.specs.JobRules.{job_code}
 use Rattle.record.proofs.Never.{job_never, one_number, answer_never}
@@ -20,7 +20,7 @@ module _ (s : State) (i : ℕ) where
   post_never job h =
       rule_never 11 (leb i 7) 35 _ (λ e. omega arith)
       (rule_never 11 (is_empty (slot_at s i)) 36 (job_code job) (λ e. omega arith) (job_never job))
-      (refused-is (post_code s i job) tt 11 h)
+      (refused_is (post_code s i job) tt 11 h)
 
   pub collect_never : (room : ℕ) → collect_of s i room ≡ refused 11 → ⊥
   unfolding collect_of collect_code

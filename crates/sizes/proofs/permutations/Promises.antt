@@ -11,7 +11,7 @@ use lib.Dec.{ltb, leb, eqb}
 use lib.ListN.{length, get_or, length-map}
 use Rattle.logic.specs.Lists.{all_of, Among}
 use Rattle.logic.specs.Answers.{refused}
-use Rattle.logic.proofs.Answers.{refused-is}
+use Rattle.logic.proofs.Answers.{refused_is}
 use Rattle.logic.proofs.Chain.{rule_never}
 use Rattle.logic.proofs.Members.{numbers_at}
 use Rattle.gate.specs.Gates.{lawful}
@@ -108,4 +108,4 @@ makes_one l w = (
 -- The call is never refused with 11.
 pub fill_never : (cells : List ℕ) → fill_of cells ≡ refused 11 → ⊥
 unfolding fill_of fill_code
-fill_never cells h = rule_never 11 (eqb (length cells) 40320) 25 0 (λ e. omega arith) (λ e. omega arith) (refused-is (fill_code cells) tt 11 h)
+fill_never cells h = rule_never 11 (eqb (length cells) 40320) 25 0 (λ e. omega arith) (λ e. omega arith) (refused_is (fill_code cells) tt 11 h)

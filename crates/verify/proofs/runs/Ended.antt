@@ -21,7 +21,7 @@ use Rattle.record.proofs.circuit_rules.Sound.{sound_circuit, circuit_wires_withi
 use Rattle.verify.specs.runs.Runs.{run_of, forwards_of, backwards_of}
 use Rattle.record.specs.pair_codes.Codes.{run_code}
 use Rattle.logic.specs.Answers.{refused, answered}
-use Rattle.logic.proofs.Answers.{refused-is, answered-is}
+use Rattle.logic.proofs.Answers.{refused_is, answered_is}
 use Rattle.record.proofs.Never.{run_code_never}
 
 module _ (c : List ℕ) where
@@ -46,7 +46,7 @@ module _ (c : List ℕ) where
     pub ran_forwards : forwards_of c v ≡ answered u → u ≡ published_forwards (gates c) v
     unfolding run_of
     ran_forwards h =
-        let a = answered-is (run_code c v) (forwards (gates c) v) u h in
+        let a = answered_is (run_code c v) (forwards (gates c) v) u h in
         let p = run_parts v a.0 in
         a.1
         ∙ forwards_published (controls_of c) (wires c) (two_or_three (marked c)).1 (circuit_wires_within c p.0).1 (gates c) v
@@ -55,7 +55,7 @@ module _ (c : List ℕ) where
     pub ran_backwards : backwards_of c v ≡ answered u → u ≡ published_backwards (gates c) v
     unfolding run_of
     ran_backwards h =
-        let a = answered-is (run_code c v) (backwards (gates c) v) u h in
+        let a = answered_is (run_code c v) (backwards (gates c) v) u h in
         let p = run_parts v a.0 in
         a.1
         ∙ backwards_published (controls_of c) (wires c) (two_or_three (marked c)).1 (circuit_wires_within c p.0).1 (gates c) v
@@ -63,4 +63,4 @@ module _ (c : List ℕ) where
 
 pub run_never : (forth : Bool) (c : List ℕ) (v : ℕ) → run_of forth c v ≡ refused 11 → ⊥
 unfolding run_of
-run_never forth c v h = run_code_never c v (refused-is (run_code c v) (pick forth (forwards (gates c) v) (backwards (gates c) v)) 11 h)
+run_never forth c v h = run_code_never c v (refused_is (run_code c v) (pick forth (forwards (gates c) v) (backwards (gates c) v)) 11 h)

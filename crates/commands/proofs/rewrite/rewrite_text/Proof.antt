@@ -11,7 +11,7 @@ use Rattle.text.specs.pieces.Text.{in_front}
 use Rattle.reports.proofs.refusal.Short.{refused_short}
 use Rattle.peephole.specs.windows.Windows.{cost_at}
 use Rattle.peephole.specs.windows.Listings.{rewrite_of, list_left}
-use Rattle.peephole.specs.Answers.{rewrittenAnswer}
+use Rattle.peephole.specs.Answers.{rewritten_answer}
 use Rattle.printed.specs.rewriting.Rewriting.{wires_in, window_in, prices_in, rewrite_text, rewritten_text}
 use Rattle.printed.proofs.rewriting.Printed.{text_refused, left_within, left_few, text_rewritten}
 use Rattle.commands.proofs.rewrite.rewrite_text.Statement.{statement}
@@ -40,7 +40,7 @@ module _ (q : tie.After-rewrite) where
   priced : q.before.before.before.before.before.before.prices-in.result ≡ prices_in head
   priced = q.before.before.before.before.before.before.prices-in.ensures
 
-  told : rewrittenAnswer q.rewrite.result ≡ rewrite_of (wires_in head) (window_in head) (prices_in head) list
+  told : rewritten_answer q.rewrite.result ≡ rewrite_of (wires_in head) (window_in head) (prices_in head) list
   told =
       let n = q.before.before.before.before.before.at.ensures in
       let k = q.before.before.before.before.at2.ensures in
@@ -60,7 +60,7 @@ returns c =
     let z = r.before.before.before in
     let q = z.before.before.before.before in
     let code = z.code.given.0.0 in
-    let t = text_refused (head q) (list q) code (sym (ap rewrittenAnswer z.code.given.1) ∙ told q) in
+    let t = text_refused (head q) (list q) code (sym (ap rewritten_answer z.code.given.1) ∙ told q) in
     let h = refused_short code in
     let k = r.refused-text.ensures.0 in
     (rw t k, (omega arith, (left q, rw t r.refused-text.ensures.1)))
@@ -74,7 +74,7 @@ module _ (z : tie.After-left) where
   count = z.left.given.0.0
 
   answer : answered count ≡ rewrite_of (wires_in (head call)) (window_in (head call)) (prices_in (head call)) (list call)
-  answer = sym (ap rewrittenAnswer z.left.given.1) ∙ told call
+  answer = sym (ap rewritten_answer z.left.given.1) ∙ told call
 
   within : count ≤ length (new call)
   within = left_within (head call) (list call) count (new call) answer (left call)

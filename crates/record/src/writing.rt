@@ -41,5 +41,16 @@ pub fn write_record(
 {
     let bytes = whole_record(head_byte(n, m, mark), layout, len as u8, path);
     let size = 3 + len;
-    bytes::copy(&bytes[..size], answer)
+    copy(&bytes[..size], answer)
+}
+
+// Copies bytes to the start of a buffer that has room for them, and returns how many. Later bytes stay as they are.
+pub fn copy(bytes: &[u8], buffer: &mut [u8]) -> usize
+    requires { length bytes.now ≤ length buffer.old }
+    ensures value { result ≡ length bytes.now }
+    ensures buffer_after { buffer.new ≡ bytes.now ++ drop (length bytes.now) buffer.old }
+{
+    let n = bytes.len();
+    buffer[..n].copy_from_slice(bytes);
+    n
 }

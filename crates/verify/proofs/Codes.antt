@@ -2,7 +2,7 @@
 use mathlib.Core.Path.{◌≡◌}
 use mathlib.Core.Bool.{true}
 use mathlib.Core.List.{List}
-use Prim.Native.Nat.{ℕ, ◌<◌}
+use Prim.Native.Nat.{ℕ}
 use lib.Dec.{lit<}
 use Rattle.logic.specs.Rules.{rule}
 use Rattle.logic.proofs.Chain.{and_then_zero, rule_kept}

@@ -5,7 +5,6 @@ use Prim.Native.Nat.{ℕ}
 use lib.Dec.{leb}
 use Rattle.logic.proofs.Chain.{rule_never}
 use Rattle.record.specs.job_fields.Jobs.{gate_limit, cost_limit, depth_limit}
-use Rattle.record.specs.circuit_fields.Circuits.{gates}
 use Rattle.verify.specs.limits.Limits.{limits_code}
 use native.Mathlib.Omega.{arith}
 use Rattle.circuit.specs.declared.measures.Measures.{Measures}

@@ -2,7 +2,6 @@
 use Rattle.std.specs.Prelude.{List, ℕ, leb}
 use Rattle.logic.specs.Rules.{rule}
 use Rattle.record.specs.job_fields.Jobs.{gate_limit, cost_limit, depth_limit}
-use Rattle.record.specs.circuit_fields.Circuits.{gates}
 use Rattle.circuit.specs.declared.measures.Measures.{Measures}
 
 -- "Gates within the limit? If not, 17. Cost? If not, 18. Depth? If not, 19."

@@ -1,0 +1,15 @@
+-- The invariant: `any` says, as a bit, whether one of the products passed is a hit.
+use mathlib.Core.Path.{◌≡◌, refl}
+use Prim.Native.Nat.{◌≤◌, ◌-◌}
+use native.Mathlib.Omega.{arith}
+use borrow.Author.Rules.{rules}
+use Rattle.logic.specs.Rules.{bit, some_below}
+use Rattle.repairs.specs.matches.Inner.{any_hit, hits_of}
+use Rattle.repairs.proofs.matches.Joined.{turn}
+use Rattle.repairs.proofs.matches.hits.Given as goal
+
+abbrev pub invariant-loop-i : goal.invariant-loop-i
+invariant-loop-i l = (l.i ≤ 16) × (l.any ≡ bit (some_below l.i (any_hit l.ps l.a l.b l.c l.d)))
+
+abbrev pub decreases-loop-i : goal.decreases-loop-i
+decreases-loop-i l = 16 - l.i

@@ -41,5 +41,6 @@ pub fn write_record(
 {
     let bytes = whole_record(head_byte(n, m, mark), layout, len as u8, path);
     let size = 3 + len;
-    bytes::copy(&bytes[..size], answer)
+    answer[..size].copy_from_slice(&bytes[..size]);
+    size
 }

@@ -53,55 +53,109 @@ pub fn usage(rt: &impl Print) {
     explain_compare(rt);
     explain_closest(rt);
     explain_rewrite(rt);
-    say(rt, b"\nA file that cannot be read gets the line `unreadable NAME`.\n");
+    say(
+        rt,
+        b"\nA file that cannot be read gets the line `unreadable NAME`.\n",
+    );
 }
 
 fn explain_search(rt: &impl Print) {
     say(rt, b"\nsearch JOB [LIBRARY]\n");
-    say(rt, b"    Searches for the cheapest circuit of a job. JOB names the file of a job record,\n");
-    say(rt, b"    LIBRARY that of a gate library: three bytes for each gate, the gate, its price\n");
+    say(
+        rt,
+        b"    Searches for the cheapest circuit of a job. JOB names the file of a job record,\n",
+    );
+    say(
+        rt,
+        b"    LIBRARY that of a gate library: three bytes for each gate, the gate, its price\n",
+    );
     say(rt, b"    and its duration, in place of the job's own.\n");
-    say(rt, b"    Prints `found GATES COST DEPTH RECORD`, or `refused NUMBER` and what it means.\n");
+    say(
+        rt,
+        b"    Prints `found GATES COST DEPTH RECORD`, or `refused NUMBER` and what it means.\n",
+    );
 }
 
 fn explain_verify(rt: &impl Print) {
     say(rt, b"\nverify JOB CIRCUIT [LIBRARY]\n");
-    say(rt, b"    Judges a circuit for a job. CIRCUIT names the file of a circuit record, or of\n");
+    say(
+        rt,
+        b"    Judges a circuit for a job. CIRCUIT names the file of a circuit record, or of\n",
+    );
     say(rt, b"    RevLib text, which begins with .version.\n");
-    say(rt, b"    Prints `passed GATES COST DEPTH` and, on a second line, `ready` and the time at\n");
-    say(rt, b"    which each of five wires comes free; or `refused NUMBER` and what it means.\n");
+    say(
+        rt,
+        b"    Prints `passed GATES COST DEPTH` and, on a second line, `ready` and the time at\n",
+    );
+    say(
+        rt,
+        b"    which each of five wires comes free; or `refused NUMBER` and what it means.\n",
+    );
 }
 
 fn explain_batch(rt: &impl Print) {
     say(rt, b"\nbatch FILE\n");
-    say(rt, b"    Searches for the cheapest circuit of each job of a batch. FILE names a file of up\n");
-    say(rt, b"    to 64 job records of 20 or 28 bytes, back to back.\n");
-    say(rt, b"    Prints for each job, in order and as soon as it is known, `found GATES COST\n");
+    say(
+        rt,
+        b"    Searches for the cheapest circuit of each job of a batch. FILE names a file of up\n",
+    );
+    say(
+        rt,
+        b"    to 64 job records of 20 or 28 bytes, back to back.\n",
+    );
+    say(
+        rt,
+        b"    Prints for each job, in order and as soon as it is known, `found GATES COST\n",
+    );
     say(rt, b"    DEPTH RECORD` or `refused NUMBER`.\n");
 }
 
 fn explain_compare(rt: &impl Print) {
     say(rt, b"\ncompare OLD NEW\n");
-    say(rt, b"    Compares two jobs that are alike but for one price. OLD and NEW name the files of\n");
+    say(
+        rt,
+        b"    Compares two jobs that are alike but for one price. OLD and NEW name the files of\n",
+    );
     say(rt, b"    two job records with no limit on cost.\n");
-    say(rt, b"    Prints `by DIFFERENCE`, the new least cost less the old, and both jobs' lines; or\n");
+    say(
+        rt,
+        b"    Prints `by DIFFERENCE`, the new least cost less the old, and both jobs' lines; or\n",
+    );
     say(rt, b"    `refused NUMBER` and what it means.\n");
 }
 
 fn explain_closest(rt: &impl Print) {
     say(rt, b"\nclosest JOB\n");
-    say(rt, b"    Searches within a job's limits for the circuit that misses the fewest wanted bits\n");
-    say(rt, b"    of the table: none of them, where `search` finds a circuit.\n");
-    say(rt, b"    Prints `misses NUMBER`, and the circuit's line as `search` does; or `refused\n");
+    say(
+        rt,
+        b"    Searches within a job's limits for the circuit that misses the fewest wanted bits\n",
+    );
+    say(
+        rt,
+        b"    of the table: none of them, where `search` finds a circuit.\n",
+    );
+    say(
+        rt,
+        b"    Prints `misses NUMBER`, and the circuit's line as `search` does; or `refused\n",
+    );
     say(rt, b"    NUMBER` and what it means.\n");
 }
 
 fn explain_rewrite(rt: &impl Print) {
     say(rt, b"\nrewrite FILE\n");
-    say(rt, b"    Makes a list of gates cheaper, a few gates at a time. FILE names a file of five\n");
-    say(rt, b"    bytes, the wires, the window and the prices of a NOT, a CNOT and a Toffoli, and\n");
+    say(
+        rt,
+        b"    Makes a list of gates cheaper, a few gates at a time. FILE names a file of five\n",
+    );
+    say(
+        rt,
+        b"    bytes, the wires, the window and the prices of a NOT, a CNOT and a Toffoli, and\n",
+    );
     say(rt, b"    then up to 4,096 gates.\n");
-    say(rt, b"    Prints `before GATES COST`, `after GATES COST` and the new list; or `refused\n");
+    say(
+        rt,
+        b"    Prints `before GATES COST`, `after GATES COST` and the new list; or `refused\n",
+    );
     say(rt, b"    NUMBER` and what it means.\n");
 }
 
@@ -129,7 +183,11 @@ pub fn open<R: Env + Files + Print>(rt: &R, i: usize) -> Option<R::File> {
 }
 
 // Opens the file that word `i` names, if one is named, and else answers `Some(None)`, for a file that is not read.
-pub fn open_named<R: Env + Files + Print>(rt: &R, named: bool, i: usize) -> Option<Option<R::File>> {
+pub fn open_named<R: Env + Files + Print>(
+    rt: &R,
+    named: bool,
+    i: usize,
+) -> Option<Option<R::File>> {
     if named {
         open(rt, i).map(Some)
     } else {

@@ -130,7 +130,12 @@ fn rewrite(rt: &(impl Env + Files + Print), at: usize)
 }
 
 // Verifies the circuit of one open file for the job of another, and prints the verdict. No more of a file is read than decides it.
-fn print_verdict<F: Read + Drop>(rt: &impl Print, job_file: F, circuit_file: F, library_file: Option<F>) {
+fn print_verdict<F: Read + Drop>(
+    rt: &impl Print,
+    job_file: F,
+    circuit_file: F,
+    library_file: Option<F>,
+) {
     let named = library_file.is_some();
     let mut job = io::buffer();
     let n = arguments::read_part(Some(job_file), files::job_room(), &mut job);

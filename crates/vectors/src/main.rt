@@ -52,7 +52,8 @@ fn run_later(rt: &(impl Files + Print)) {
 
 // What `main` and `gazbolk search` print for three inputs.
 fn run_program(rt: &(impl Files + Print)) {
-    output::say(rt, 
+    output::say(
+        rt,
         b"# main, gazbolk search: no input at all; four data wires and an ancilla; a sound job with one byte more\n",
     );
     print_both(rt, b"empty");
@@ -125,7 +126,13 @@ fn run_call(rt: &impl Print, line: &[u8]) {
     let mut second = io::buffer();
     let n = data_lines::decode(&line[from..b], &mut first);
     let m = data_lines::decode(&line[to..c], &mut second);
-    with_third(rt, line, data_lines::past(line, c), &first[..n], &second[..m]);
+    with_third(
+        rt,
+        line,
+        data_lines::past(line, c),
+        &first[..n],
+        &second[..m],
+    );
 }
 
 // Reads the third word, which begins at `at`, and makes the call.
@@ -161,10 +168,13 @@ fn dispatch_search(rt: &impl Print, letter: u8, first: &[u8], second: &[u8], thi
         b'w' => call_lines::say_measured(rt, calls::verify_with(first, second, third)),
         b't' => say_batch(rt, first, second, logic::at(third, 0)),
         b'd' => say_change(rt, sensitivity::price_change(first, second)),
-        b'g' => call_lines::say_difference(rt, difference::cost_difference(
-            call_lines::number_in(first),
-            call_lines::number_in(second),
-        )),
+        b'g' => call_lines::say_difference(
+            rt,
+            difference::cost_difference(
+                call_lines::number_in(first),
+                call_lines::number_in(second),
+            ),
+        ),
         b'n' => say_closest(rt, first, logic::at(second, 0)),
         b'r' => say_rewrite(rt, first, second, third),
         _ => output::say(rt, b"unknown"),
@@ -279,7 +289,10 @@ fn rewrite_into(rt: &impl Print, setting: &[u8], gates: &[u8], list: &mut [u8], 
 fn rewrite_whole(rt: &impl Print, setting: &[u8], gates: &[u8], list: &mut [u8]) {
     call_lines::repeat(gates, list);
     let prices = rewriting::prices_in(setting);
-    say_rewritten(rt, peephole::rewrite(logic::at(setting, 0), logic::at(setting, 1), prices, list));
+    say_rewritten(
+        rt,
+        peephole::rewrite(logic::at(setting, 0), logic::at(setting, 1), prices, list),
+    );
     output::say(rt, b" ");
     data_lines::say_bytes(rt, list);
 }

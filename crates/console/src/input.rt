@@ -1,6 +1,7 @@
 // The words that the program was started with, files opened by their names, and bytes read from what is open. No contract can say which
 // bytes the system gives.
-ghost use Rattle.std.specs.Prelude.{◌≤◌, length};
+ghost use Rattle.std.specs.Prelude.{◌≤◌, length, take};
+ghost use Rattle.std.specs.Io.KnownBytes.{Consumes};
 ghost use Rattle.io.specs.Counts.{IsPrefixLen};
 
 use std::env::FillError;
@@ -52,8 +53,9 @@ pub fn open<R: Files>(rt: &R, name: &[u8]) -> Option<R::File> {
 
 // Reads until a buffer is full, the input ends or a read fails, and answers how many bytes it put at the start of the buffer. With an empty
 // buffer it makes no call.
-pub fn read_full(reader: &mut impl Read, buffer: &mut [u8]) -> usize
-    ensures { IsPrefixLen result buffer.new }
+pub fn read_full<R: Read>(reader: &mut R, buffer: &mut [u8]) -> usize
+    ensures count { IsPrefixLen result buffer.new }
+    ensures bytes { Consumes (R.remaining reader.old) (R.remaining reader.new) (take result buffer.new) }
 {
     let mut done = 0;
     while done < buffer.len() {
@@ -67,8 +69,9 @@ pub fn read_full(reader: &mut impl Read, buffer: &mut [u8]) -> usize
 }
 
 // One read; 0 where the input has ended or the read fails.
-fn read_some(reader: &mut impl Read, buffer: &mut [u8]) -> usize
-    ensures { IsPrefixLen result buffer.new }
+fn read_some<R: Read>(reader: &mut R, buffer: &mut [u8]) -> usize
+    ensures count { IsPrefixLen result buffer.new }
+    ensures bytes { Consumes (R.remaining reader.old) (R.remaining reader.new) (take result buffer.new) }
 {
     match reader.read(buffer) {
         Ok(n) => n,

@@ -14,7 +14,7 @@ use Rattle.revlib_writer.proofs.put_real.Goals.{After-ancillas-m}
 
 -- the heading is the circuit's
 same : (a : After-ancillas-m)
-    → heading_for a.data_wires-n.result a.ancillas-m.result ≡ heading_for (data_wires (a).args.circuit.now) (ancillas (a).args.circuit.now)
+    → heading_for a.data_wires-n.result a.ancillas-m.result ≡ heading_for (data_wires (a.before).args.circuit.now) (ancillas (a.before).args.circuit.now)
 same a = ap₂ heading_for a.data_wires-n.ensures.value a.ancillas-m.ensures
 
 pub put_heading-i-requires-clause-width : goal.put_heading-i-requires-clause-width
@@ -27,11 +27,11 @@ put_heading-i-requires-clause-m_in_bounds c =
     let k = sound_circuit c.args.circuit.now (code_sound c.args.circuit.now c.requires.circuit_value) in
     let h = c.requires.circuit_in_bounds in omega (arith, ap length (same (goal.at.put_heading-i-requires-clause-m_in_bounds c).After-ancillas-m), text_length c.args.circuit.now)
 
-pub put_body-requires-clause-gates_in_bounds : goal.put_body-requires-clause-gates_in_bounds
-put_body-requires-clause-gates_in_bounds c = let h = c.requires.circuit_in_bounds in rw c.gate_list.ensures (omega (arith, c.put_heading-i.ensures.size, ap length (same (goal.at.put_body-requires-clause-gates_in_bounds c).After-ancillas-m), text_length c.args.circuit.now, ap length c.put_heading-i.ensures.bytes, over_length c.args.out.now 0 (heading_for c.data_wires-n.result c.ancillas-m.result)))
-
 pub put_body-requires-clause-gates_value : goal.put_body-requires-clause-gates_value
 put_body-requires-clause-gates_value c = let h = c.requires.circuit_in_bounds in rw c.gate_list.ensures (lawful_five c.args.circuit.now c.requires.circuit_value)
+
+pub put_body-requires-clause-gates_in_bounds : goal.put_body-requires-clause-gates_in_bounds
+put_body-requires-clause-gates_in_bounds c = let h = c.requires.circuit_in_bounds in rw c.gate_list.ensures (omega (arith, c.put_heading-i.ensures.size, ap length (same (goal.at.put_body-requires-clause-gates_in_bounds c).After-ancillas-m), text_length c.args.circuit.now, ap length c.put_heading-i.ensures.bytes, over_length c.args.out.now 0 (heading_for c.data_wires-n.result c.ancillas-m.result)))
 
 pub returns : goal.returns
 returns c =

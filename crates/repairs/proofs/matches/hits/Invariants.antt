@@ -1,11 +1,8 @@
 -- The invariant: `any` says, as a bit, whether one of the products passed is a hit.
-use mathlib.Core.Path.{◌≡◌, refl}
+use mathlib.Core.Path.{◌≡◌}
 use Prim.Native.Nat.{◌≤◌, ◌-◌}
-use native.Mathlib.Omega.{arith}
-use borrow.Author.Rules.{rules}
 use Rattle.logic.specs.Rules.{bit, some_below}
-use Rattle.repairs.specs.matches.Inner.{any_hit, hits_of}
-use Rattle.repairs.proofs.matches.Joined.{turn}
+use Rattle.repairs.specs.matches.Inner.{any_hit}
 use Rattle.repairs.proofs.matches.hits.Given as goal
 
 abbrev pub invariant-loop-i : goal.invariant-loop-i

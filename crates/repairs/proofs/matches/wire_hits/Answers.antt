@@ -4,7 +4,6 @@ use lib.Dec.{eqb}
 use lib.ListN.{get_or}
 use Rattle.logic.specs.Rules.{pick, bit}
 use Rattle.repairs.specs.matches.Inner.{hits_of, lack_of, wire_hits}
-use borrow.Author.Rules.{rules}
 use Rattle.repairs.proofs.matches.wire_hits.Goals as goal
 
 pub returns : goal.returns

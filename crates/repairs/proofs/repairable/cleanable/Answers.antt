@@ -2,13 +2,11 @@
 use mathlib.Core.Path.{sym, ap, ◌∙◌}
 use mathlib.Core.Bool.{false, not}
 use borrow.Author.Tests.{eq-eqb}
-use borrow.Author.Rules.{rules}
 use lib.Dec.{eqb}
 use Rattle.logic.specs.Rules.{both, bit}
 use Rattle.outputs.specs.Owed.{adds, cleanable}
 use Rattle.outputs.specs.products.Products.{part}
 use Rattle.outputs.proofs.Counted.{bit_one}
-use Rattle.outputs.proofs.Wires.{narrow}
 use Rattle.repairs.proofs.repairable.cleanable.Goals as goal
 
 pub returns-then-spilt-eq0 : goal.returns-then-spilt-eq0

@@ -8,7 +8,6 @@ use lib.ListN.{get_or}
 use Rattle.logic.specs.Rules.{pick, bit}
 use Rattle.repairs.specs.matches.Inner.{hits_of, lack_of}
 use Rattle.repairs.proofs.matches.Joined.{free_mendable, fixed_mendable}
-use borrow.Author.Rules.{rules}
 use Rattle.repairs.proofs.repairable.mendable.Goals as goal
 
 pub returns-then-free-eq1 : goal.returns-then-free-eq1

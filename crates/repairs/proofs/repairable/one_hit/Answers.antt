@@ -1,5 +1,4 @@
 use mathlib.Core.Path.{ap, ◌∙◌}
-use borrow.Author.Rules.{rules}
 use Rattle.logic.specs.Rules.{bit}
 use Rattle.repairs.specs.matches.Inner.{hits_of, lack_of}
 use Rattle.repairs.proofs.matches.Joined.{one_is}

@@ -2,14 +2,12 @@ use mathlib.Core.Path.{◌≡◌, ap, ◌∙◌}
 use mathlib.Core.Bool.{true}
 use mathlib.Core.List.{List}
 use Prim.Native.Nat.{ℕ}
-use native.Mathlib.Omega.{arith}
 use borrow.Author.Rules.{rules}
 use lib.Bits.{bit_or}
 use lib.Dec.{eqb}
 use lib.ListN.{length}
 use Rattle.outputs.specs.Owed.{fixable}
 use Rattle.outputs.specs.products.Products.{part}
-use Rattle.outputs.proofs.Wires.{three_wires}
 use Rattle.repairs.proofs.matches.Joined.{wires_fixable, five_cells}
 use Rattle.repairs.proofs.repairable.wide_fixable.Goals as goal
 

@@ -3,16 +3,14 @@ use mathlib.Core.Path.{ap, ◌∙◌}
 use mathlib.Core.Bool.{true, not}
 use mathlib.Core.List.{List, [], ◌∷◌}
 use Prim.Native.Nat.{ℕ, ◌<◌}
-use native.Mathlib.Omega.{arith}
 use borrow.Author.Tests.{eq-eqb, ne_eqb}
-use borrow.Author.Rules.{rules}
 use lib.Dec.{eqb}
 use lib.ListN.{get_or}
 use Rattle.logic.specs.Rules.{both, bit}
 use Rattle.outputs.specs.Owed.{adds, mendable_on, cleanable}
 use Rattle.repairs.specs.matches.Inner.{fixes_on}
 use Rattle.outputs.specs.products.Products.{part}
-use Rattle.outputs.proofs.Wires.{narrow, data_wire}
+use Rattle.outputs.proofs.Wires.{data_wire}
 use Rattle.repairs.proofs.matches.Joined.{wire_is}
 use Rattle.repairs.proofs.repairable.wide_hits.Goals as goal
 use Rattle.repairs.proofs.repairable.wide_hits.Goals.{Else-n-w, Start}
@@ -28,18 +26,18 @@ pub returns-then-n-w : goal.returns-then-n-w
 unfolding fixes_on cleanable
 returns-then-n-w c =
     rw (eq-eqb _ _ c.if-n-w.true)
-    (c.one_hit.ensures (cells c) c.triples-ps.ensures
-    ∙ (λ i. bit (both (not (eqb (c.dirt.ensures i) 0)) (adds (part true) (cells c) c.args.n (c.all_rows.ensures i) (c.dirt.ensures i)))))
+    (c.one_hit.ensures (cells (goal.at.returns-then-n-w c).Start) c.triples-ps.ensures
+    ∙ (λ i. bit (both (not (eqb (c.dirt.ensures i) 0)) (adds (part true) (cells (goal.at.returns-then-n-w c).Start) c.args.n (c.all_rows.ensures i) (c.dirt.ensures i)))))
 
 pub returns-then-free-eq1 : goal.returns-then-free-eq1
 unfolding fixes_on
 returns-then-free-eq1 c =
     rw (ne_eqb _ _ c.if-n-w.false, eq-eqb _ _ c.if-free-eq1.true)
-    (c.wire_hits.ensures ∙ ap bit (wire_is true c.args.t (cells c) c.args.n c.requires.width _ c.triples-ps.ensures c.args.w (output (goal.at.returns-then-free-eq1 c).Else-n-w)))
+    (c.wire_hits.ensures ∙ ap bit (wire_is true c.args.t (cells (goal.at.returns-then-free-eq1 c).Start) c.args.n c.requires.width _ c.triples-ps.ensures c.args.w (output (goal.at.returns-then-free-eq1 c).Else-n-w)))
 
 pub returns : goal.returns
 unfolding fixes_on mendable_on
 returns c =
     rw (ne_eqb _ _ c.if-n-w.false, ne_eqb _ _ c.if-free-eq1.false)
-    (c.one_hit-2.ensures (cells c) c.triples-ps.ensures
-    ∙ (λ i. bit (both (not (eqb (c.misses.ensures i) 0)) (adds (part true) (cells c) c.args.w (get_or c.args.t.care c.args.w 0) (c.misses.ensures i)))))
+    (c.one_hit-2.ensures (cells (goal.at.returns c).Start) c.triples-ps.ensures
+    ∙ (λ i. bit (both (not (eqb (c.misses.ensures i) 0)) (adds (part true) (cells (goal.at.returns c).Start) c.args.w (get_or c.args.t.care c.args.w 0) (c.misses.ensures i)))))

@@ -8,7 +8,6 @@ use Rattle.outputs.specs.Owed.{lost, up_to, mendable, cleanable, fixable, stuck}
 use Rattle.outputs.specs.products.Products.{part}
 use Rattle.repairs.proofs.matches.Joined.{bit_none}
 use Rattle.repairs.proofs.stuck.Parts.{fixable_parts}
-use borrow.Author.Rules.{rules}
 use Rattle.repairs.proofs.stuck.stuck.Goals as goal
 use Rattle.repairs.proofs.stuck.stuck.Goals.{After-one, Else-mendable-ne0}
 
@@ -41,10 +40,10 @@ none_of_two c =
     let m = mendable (part false) c.args.t c.args.columns c.args.n c.args.free in
     let none = not-true m (sym (told m _ c.mendable.ensures) ∙ eq-eqb _ _ c.if-mendable-ne0.false) in
     rw (
-      ← least c,
+      ← least c.before.before.before.before.before.before,
       eq-eqb _ _ c.if-least-most.false,
       ne_eqb _ _ c.if-most-eq0.false,
-      parted c,
+      parted c.before.before.before.before.before.before,
       ← c.cleanable.ensures,
       c.if-cleanable.false,
       none,

@@ -15,10 +15,10 @@ use Rattle.revlib_writer.proofs.gates.Lines.{body_size, body_last, laid_next, ov
 use Rattle.revlib_writer.proofs.gates.put_body.Given as goal
 
 abbrev pub invariant-loop-k : goal.invariant-loop-k
-invariant-loop-k l = ? -- out₀ i gates at₀ k₀ t6 out at k = (k ≤ length gates)
-    × ((length out ≡ length out₀)
-    × ((at + length (body (map line_for (drop k gates))) ≡ i + length (body (map line_for gates)))
-    × (over out at (body (map line_for (drop k gates))) ≡ over out₀ i (body (map line_for gates)))))
+invariant-loop-k l = (l.k ≤ length l.gates)
+    × ((length l.out ≡ length l.initial.out)
+    × ((l.at + length (body (map line_for (drop l.k l.gates))) ≡ l.i + length (body (map line_for l.gates)))
+    × (over l.out l.at (body (map line_for (drop l.k l.gates))) ≡ over l.initial.out l.i (body (map line_for l.gates)))))
 
 abbrev pub decreases-loop-k : goal.decreases-loop-k
-decreases-loop-k l = ? -- out₀ i gates at₀ k₀ t6 out at k = length gates - k
+decreases-loop-k l = length l.gates - l.k

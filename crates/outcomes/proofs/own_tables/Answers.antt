@@ -1,20 +1,13 @@
 -- The tables of gates, prices and durations hold the job's own up to its last gate.
 use mathlib.Core.Path.{◌≡◌, sym, ap, ap₂, ◌∙◌, subst}
-use mathlib.Core.List.{List}
-use Prim.Native.Nat.{ℕ, ◌≤◌, ◌<◌}
-use native.Mathlib.Omega.{arith}
-use borrow.Author.Rules.{rules}
-use lib.ListN.{length, take, get_or}
-use lib.Seq.{length-take-le, get_or-take}
+use Prim.Native.Nat.{ℕ, ◌≤◌}
+use lib.ListN.{take}
 use Rattle.gate.specs.Gates.{gates_for}
-use Rattle.gate.proofs.Tables.{gates_most, gate_is}
-use Rattle.circuit.specs.declared.Weights.{Weights}
-use Rattle.circuit.specs.Measure.{weight_of}
+use Rattle.gate.proofs.Tables.{gate_is}
 use Rattle.record.specs.job_fields.Jobs.{longer, most_controls, wires}
 use Rattle.record.proofs.Kept.{wires_within}
 use Rattle.record.proofs.job_fields.Widths.{two_or_three}
-use Rattle.outcomes.specs.Outcomes.{own_set}
-use Rattle.outcomes.specs.Inner.{Lawfuls, Tabled}
+use Rattle.outcomes.specs.Inner.{Lawfuls}
 use Rattle.outcomes.proofs.own_tables.Goals as goal
 use Rattle.outcomes.proofs.own_tables.Goals.{After-gate_table-gates, After-wires-wires}
 

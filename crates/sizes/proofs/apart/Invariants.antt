@@ -17,6 +17,10 @@ use Rattle.sizes.specs.permutations.Sizes.{twelve}
 use Rattle.sizes.specs.permutations.Inner.{neighbor_of, apart}
 use Rattle.sizes.proofs.apart.Given as goal
 
+-- the neighbor by gate g does not hold k
+abbrev pub away : List ℕ → ℕ → ℕ → ℕ → Bool
+away cells r k g = differs k (get_or cells (neighbor_of g r) 0)
+
 abbrev pub invariant-loop-i : goal.invariant-loop-i
 invariant-loop-i l = (l.i ≤ length l.gates) × (all_of (away l.cells l.r l.k) (drop l.i l.gates) ≡ all_of (away l.cells l.r l.k) l.gates)
 

@@ -11,6 +11,9 @@ use lib.Seq.{get_or-set_same, get_or-set_other}
 use Rattle.logic.specs.Rules.{pick}
 use Rattle.sizes.proofs.clear.Given as goal
 
+abbrev pub Fresh : List ℕ → ℕ → Type 0
+Fresh cells r = (s : ℕ) → s < r → get_or cells s 0 ≡ pick (eqb s 0) 0 255
+
 abbrev pub invariant-loop-s : goal.invariant-loop-s
 invariant-loop-s l = (l.s ≤ length l.cells) × ((length l.cells ≡ length l.initial.cells) × Fresh l.cells l.s)
 

@@ -30,15 +30,23 @@ unfolding fill_of fill_code cells_left
 whole before clear after e fresh l grown =
     rw (eq-eqb (length before) 40320 e) (refl, level_last after l (grown (level_first clear (λ s h. fresh s (omega arith)))))
 
-pub returns-then-cells-ne40320 : goal.returns-then-cells-ne40320
-returns-then-cells-ne40320 c = other c.args.cells.now c.if-cells-ne40320.true
+pub returns-then-cells-ne40320-clause-cells_after : goal.returns-then-cells-ne40320-clause-cells_after
+returns-then-cells-ne40320-clause-cells_after c = (other c.args.cells.now c.if-cells-ne40320.true).1
+
+pub returns-then-cells-ne40320-clause-result_value : goal.returns-then-cells-ne40320-clause-result_value
+returns-then-cells-ne40320-clause-result_value c = (other c.args.cells.now c.if-cells-ne40320.true).0
 
 -- the twelve gates
 pub grow_all-requires-clause-gates_value : goal.grow_all-requires-clause-gates_value
 unfolding gates_for lawful ones ones_in
 grow_all-requires-clause-gates_value c = c.gate_table-gates.ensures
 
-pub returns : goal.returns
-returns c =
-    whole c.args.cells.now c.clear.new.cells c.grow_all.new.cells c.if-cells-ne40320.false c.clear.ensures.by_index
-    c.grow_all.ensures.cells_len_2 c.grow_all.ensures.level
+pub returns-clause-cells_after : goal.returns-clause-cells_after
+returns-clause-cells_after c =
+    (whole c.args.cells.now c.clear.new.cells c.grow_all.new.cells c.if-cells-ne40320.false c.clear.ensures.by_index
+    c.grow_all.ensures.cells_len_2 c.grow_all.ensures.level).1
+
+pub returns-clause-result_value : goal.returns-clause-result_value
+returns-clause-result_value c =
+    (whole c.args.cells.now c.clear.new.cells c.grow_all.new.cells c.if-cells-ne40320.false c.clear.ensures.by_index
+    c.grow_all.ensures.cells_len_2 c.grow_all.ensures.level).0

@@ -1,5 +1,4 @@
 use mathlib.Core.Path.{◌∙◌, ap₂}
-use borrow.Author.Rules.{rules}
 use lib.Dec.{eqb}
 use Rattle.logic.specs.Rules.{both}
 use Rattle.outcomes.specs.preflight.Odd.{always_none}

@@ -12,7 +12,7 @@ use Rattle.sizes.proofs.neighbors.Digits.{one_less, one_less_pos, share_most, di
 use Rattle.sizes.proofs.neighbors.neighbor.Goals as goal
 use Rattle.sizes.proofs.neighbors.neighbor.Goals.{After-lesser, After-step-y, In-loop-n}
 
-module _ (c : In-loop-n Inv μ) where
+module _ (c : In-loop-n) where
   pos : 0 < c.loop-n.orders / c.loop-n.n
   pos = one_less_pos c.loop-n.n c.loop-n.orders c.loop-n-test.true c.loop-n.invariant.1.0
 
@@ -20,13 +20,13 @@ module _ (c : In-loop-n Inv μ) where
   most = let h = c.loop-n.invariant.1.1.0 in omega (arith, div-le_self c.loop-n.orders c.loop-n.n)
 
 -- the value that the gate makes is one of eight
-made-low : (c : After-step-y Inv μ) → c.step-y.result < 8
+made-low : (c : After-step-y) → c.step-y.result < 8
 made-low c =
     subst (λ (y : ℕ). y < 8) (sym c.step-y.ensures)
     (stay 2 3 c.args.g c.member-x.result c.requires c.member-x.ensures.upper_bound)
 
-share : (c : After-lesser Inv μ) → c.lesser.result * (c.loop-n.orders / c.loop-n.n) ≤ 322560
-share c = share_most c.lesser.result _ c.lesser.ensures.upper_bound (most c)
+share : (c : After-lesser) → c.lesser.result * (c.loop-n.orders / c.loop-n.n) ≤ 322560
+share c = share_most c.lesser.result _ c.lesser.ensures.upper_bound (most c.before.before.before)
 
 pub loop-n-init : goal.loop-n-init
 unfolding factorial neighbor_of

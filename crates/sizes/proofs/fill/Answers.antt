@@ -14,8 +14,7 @@ use Rattle.gate.specs.Gates.{gates_for, lawful}
 use Rattle.sizes.specs.permutations.Inner.{Level}
 use Rattle.sizes.proofs.permutations.Levels.{level_first, level_last}
 use Rattle.sizes.specs.Filling.{fill_code, fill_of, cells_left}
-use Rattle.sizes.proofs.fill.Statement.{statement}
-use Rattle.sizes.proofs.fill.Tie as tie
+use Rattle.sizes.proofs.fill.Goals as goal
 
 -- a buffer of another length
 other : (cells : List ℕ) → (length cells ≡ 40320 → ⊥) → (refused 25 ≡ fill_of cells) × (cells ≡ cells_left cells)
@@ -31,30 +30,23 @@ unfolding fill_of fill_code cells_left
 whole before clear after e fresh l grown =
     rw (eq-eqb (length before) 40320 e) (refl, level_last after l (grown (level_first clear (λ s h. fresh s (omega arith)))))
 
-returns : tie.Need-returns
-returns c = other c.before.before.args.cells.now c.if1.true
+pub returns-then-cells-ne40320-clause-cells_after : goal.returns-then-cells-ne40320-clause-cells_after
+returns-then-cells-ne40320-clause-cells_after c = (other c.args.cells.now c.if-cells-ne40320.true).1
 
-slice-aggregate-grow-all : tie.Need-slice-aggregate-grow-all
-slice-aggregate-grow-all c =
-    let t = c.before.gate-table.result in
-    let l : length t ≡ 75 = search rules in
-    sym (length-take-le 12 t (omega arith))
+pub returns-then-cells-ne40320-clause-result_value : goal.returns-then-cells-ne40320-clause-result_value
+returns-then-cells-ne40320-clause-result_value c = (other c.args.cells.now c.if-cells-ne40320.true).0
 
 -- the twelve gates
-grow-all-requires : tie.Need-grow-all-requires
+pub grow_all-requires-clause-gates_value : goal.grow_all-requires-clause-gates_value
 unfolding gates_for lawful ones ones_in
-grow-all-requires c κs =
-    let p = c.before.before.before.before.before in
-    (c.before.before.gate-table.ensures, p.clear.ensures.0 ∙ p.before.before.if1.false)
+grow_all-requires-clause-gates_value c = c.gate_table-gates.ensures
 
-returns-2 : tie.Need-returns-2
-returns-2 c =
-    let g = c.before.before.grow-all in
-    let p = c.before.before.before.before.before.before.before.before in
-    whole p.before.before.before.before.args.cells.now p.clear.new.0 g.new.1.0 p.before.before.if1.false p.clear.ensures.1
-    g.ensures.0 g.ensures.1
+pub returns-clause-cells_after : goal.returns-clause-cells_after
+returns-clause-cells_after c =
+    (whole c.args.cells.now c.clear.new.cells c.grow_all.new.cells c.if-cells-ne40320.false c.clear.ensures.by_index
+    c.grow_all.ensures.cells_len_2 c.grow_all.ensures.level).1
 
-pub fill_spec : {M : Type 1} → statement M
-fill_spec =
-    tie.close
-    (tie.spec returns (λ c κs. search rules) (λ c κs. search rules) (λ c. search rules) slice-aggregate-grow-all grow-all-requires (λ c. search rules) returns-2)
+pub returns-clause-result_value : goal.returns-clause-result_value
+returns-clause-result_value c =
+    (whole c.args.cells.now c.clear.new.cells c.grow_all.new.cells c.if-cells-ne40320.false c.clear.ensures.by_index
+    c.grow_all.ensures.cells_len_2 c.grow_all.ensures.level).0

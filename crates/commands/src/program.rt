@@ -4,9 +4,10 @@ ghost use Rattle.std.specs.Prelude.{◌≡◌, ◌≤◌, length};
 ghost use Rattle.text.specs.pieces.Text.{in_front};
 ghost use Rattle.printed.specs.job_line.Lines.{line_of};
 
-use console::output;
+use console::{input, output};
 use outcomes::Searched;
 use printed::job_line;
+use std::io::Read;
 
 // Searches for a job's circuit and writes the line to the start of `out`; returns the line's length.
 pub fn line(job: &[u8], out: &mut [u8]) -> usize
@@ -22,12 +23,12 @@ pub fn line(job: &[u8], out: &mut [u8]) -> usize
     }
 }
 
-// Reads one job from an open file, standard input in `main`, and prints its line.
-pub fn answer(input: i32) {
+// Reads one job from what is open, standard input in `main`, and prints its line.
+pub fn answer(rt: &impl Print, reader: &mut impl Read) {
     let mut job = io::buffer();
     let room = job_line::room();
-    let n = io::read_full(input, &mut job[..room]);
+    let n = input::read_full(reader, &mut job[..room]);
     let mut out = [0u8; 64];
     let size = line(&job[..n], &mut out);
-    output::say(&out[..size]);
+    output::say(rt, &out[..size]);
 }

@@ -4,34 +4,33 @@ ghost use Rattle.io.specs.Counts.{IsPrefixLen};
 ghost use Rattle.logic.specs.Lists.{all_of};
 ghost use Rattle.console.specs.data_lines.Words.{is_digit, is_byte, is_dash, is_bytes, is_word};
 
-use crate::output;
+use crate::{input, output};
+use std::rt::Files;
 use text::hex;
 
 // Reads a file into a lent buffer, and answers how many bytes it has. Complains of a file that cannot be read, which counts as an empty
 // one, and of one that fills the buffer, since there may be more of it.
-pub fn read_file(name: &[u8], buffer: &mut [u8]) -> usize
+pub fn read_file(rt: &(impl Files + Print), name: &[u8], buffer: &mut [u8]) -> usize
     ensures { IsPrefixLen result buffer.new }
 {
-    let file = os::open_read(name);
-    if file < 0 {
-        output::say_unreadable(name);
+    let Some(mut file) = input::open(rt, name) else {
+        output::say_unreadable(rt, name);
         return 0;
-    }
-    let n = io::read_full(file, buffer);
-    libc::close(file);
+    };
+    let n = input::read_full(&mut file, buffer);
     if n == buffer.len() {
-        output::complain(b"too long ", name);
+        output::complain(rt, b"too long ", name);
     }
     n
 }
 
 // Says a line that is no call: a heading, which begins with `#`, as it is, and for any other `bad line` and its number, so that a slip in
 // the data is seen.
-pub fn say_other(line: &[u8], number: usize) {
+pub fn say_other(rt: &impl Print, line: &[u8], number: usize) {
     if logic::at(line, 0) == b'#' {
-        output::say(line);
+        output::say(rt, line);
     } else {
-        output::say_count(b"bad line ", number as u64);
+        output::say_count(rt, b"bad line ", number as u64);
     }
 }
 
@@ -85,21 +84,21 @@ fn is_digit(b: u8) -> bool
 }
 
 // Says a byte as two digits.
-pub fn say_byte(value: u8) {
+pub fn say_byte(rt: &impl Print, value: u8) {
     let byte = [value];
     let mut digits = [0u8; 2];
     hex::put_hex(&mut digits, 0, &byte);
-    output::say(&digits);
+    output::say(rt, &digits);
 }
 
 // Says each byte as two digits, or `-` where there is none.
-pub fn say_bytes(bytes: &[u8]) {
+pub fn say_bytes(rt: &impl Print, bytes: &[u8]) {
     if bytes.len() == 0 {
-        output::say(b"-");
+        output::say(rt, b"-");
     }
     let mut i = 0;
     while i < bytes.len() {
-        say_byte(bytes[i]);
+        say_byte(rt, bytes[i]);
         i += 1;
     }
 }

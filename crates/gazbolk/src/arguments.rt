@@ -3,8 +3,10 @@
 ghost use Rattle.std.specs.Prelude.{◌≡◌, true, ◌↔◌, ◌<◌, ◌≤◌, min, length};
 ghost use Rattle.gazbolk.specs.arguments.Words.{Asked};
 
-use console::output;
 use console::output::say;
+use console::{input, output};
+use std::io::Read;
+use std::rt::{Env, Files};
 
 // The number of words, at most a million: nobody writes more, and no sum of places can then overflow.
 pub fn few(count: usize) -> usize
@@ -14,23 +16,23 @@ pub fn few(count: usize) -> usize
 }
 
 // The place of the next `then` after `at`, or the number of words.
-pub fn command_end(at: usize, count: usize) -> usize
+pub fn command_end(rt: &impl Env, at: usize, count: usize) -> usize
     requires { (at ≤ count) × (count ≤ 1000000) }
     ensures { ((at ≤ result) × (result ≤ count)) × (at < count → at < result) }
 {
     let mut i = at;
     while i < count {
         i += 1;
-        if is_then(i) {
+        if is_then(rt, i) {
             return i;
         }
     }
     i
 }
 
-fn is_then(i: usize) -> bool {
+fn is_then(rt: &impl Env, i: usize) -> bool {
     let mut word = io::buffer();
-    let n = os::arg(i, &mut word);
+    let n = input::word(rt, i, &mut word);
     check::same(&word[..n], b"then")
 }
 
@@ -43,105 +45,173 @@ pub fn is_asked(word: &[u8], command: &[u8], words: usize, least: usize, most: u
 }
 
 // Prints how the program is called.
-pub fn usage() {
-    say(b"usage: gazbolk COMMAND WORDS [then COMMAND WORDS]..\n");
-    explain_search();
-    explain_verify();
-    explain_batch();
-    explain_compare();
-    explain_closest();
-    explain_rewrite();
-    say(b"\nA file that cannot be read gets the line `unreadable NAME`.\n");
+pub fn usage(rt: &impl Print) {
+    say(rt, b"usage: gazbolk COMMAND WORDS [then COMMAND WORDS]..\n");
+    explain_search(rt);
+    explain_verify(rt);
+    explain_batch(rt);
+    explain_compare(rt);
+    explain_closest(rt);
+    explain_rewrite(rt);
+    say(
+        rt,
+        b"\nA file that cannot be read gets the line `unreadable NAME`.\n",
+    );
 }
 
-fn explain_search() {
-    say(b"\nsearch JOB [LIBRARY]\n");
-    say(b"    Searches for the cheapest circuit of a job. JOB names the file of a job record,\n");
-    say(b"    LIBRARY that of a gate library: three bytes for each gate, the gate, its price\n");
-    say(b"    and its duration, in place of the job's own.\n");
-    say(b"    Prints `found GATES COST DEPTH RECORD`, or `refused NUMBER` and what it means.\n");
+fn explain_search(rt: &impl Print) {
+    say(rt, b"\nsearch JOB [LIBRARY]\n");
+    say(
+        rt,
+        b"    Searches for the cheapest circuit of a job. JOB names the file of a job record,\n",
+    );
+    say(
+        rt,
+        b"    LIBRARY that of a gate library: three bytes for each gate, the gate, its price\n",
+    );
+    say(rt, b"    and its duration, in place of the job's own.\n");
+    say(
+        rt,
+        b"    Prints `found GATES COST DEPTH RECORD`, or `refused NUMBER` and what it means.\n",
+    );
 }
 
-fn explain_verify() {
-    say(b"\nverify JOB CIRCUIT [LIBRARY]\n");
-    say(b"    Judges a circuit for a job. CIRCUIT names the file of a circuit record, or of\n");
-    say(b"    RevLib text, which begins with .version.\n");
-    say(b"    Prints `passed GATES COST DEPTH` and, on a second line, `ready` and the time at\n");
-    say(b"    which each of five wires comes free; or `refused NUMBER` and what it means.\n");
+fn explain_verify(rt: &impl Print) {
+    say(rt, b"\nverify JOB CIRCUIT [LIBRARY]\n");
+    say(
+        rt,
+        b"    Judges a circuit for a job. CIRCUIT names the file of a circuit record, or of\n",
+    );
+    say(rt, b"    RevLib text, which begins with .version.\n");
+    say(
+        rt,
+        b"    Prints `passed GATES COST DEPTH` and, on a second line, `ready` and the time at\n",
+    );
+    say(
+        rt,
+        b"    which each of five wires comes free; or `refused NUMBER` and what it means.\n",
+    );
 }
 
-fn explain_batch() {
-    say(b"\nbatch FILE\n");
-    say(b"    Searches for the cheapest circuit of each job of a batch. FILE names a file of up\n");
-    say(b"    to 64 job records of 20 or 28 bytes, back to back.\n");
-    say(b"    Prints for each job, in order and as soon as it is known, `found GATES COST\n");
-    say(b"    DEPTH RECORD` or `refused NUMBER`.\n");
+fn explain_batch(rt: &impl Print) {
+    say(rt, b"\nbatch FILE\n");
+    say(
+        rt,
+        b"    Searches for the cheapest circuit of each job of a batch. FILE names a file of up\n",
+    );
+    say(
+        rt,
+        b"    to 64 job records of 20 or 28 bytes, back to back.\n",
+    );
+    say(
+        rt,
+        b"    Prints for each job, in order and as soon as it is known, `found GATES COST\n",
+    );
+    say(rt, b"    DEPTH RECORD` or `refused NUMBER`.\n");
 }
 
-fn explain_compare() {
-    say(b"\ncompare OLD NEW\n");
-    say(b"    Compares two jobs that are alike but for one price. OLD and NEW name the files of\n");
-    say(b"    two job records with no limit on cost.\n");
-    say(b"    Prints `by DIFFERENCE`, the new least cost less the old, and both jobs' lines; or\n");
-    say(b"    `refused NUMBER` and what it means.\n");
+fn explain_compare(rt: &impl Print) {
+    say(rt, b"\ncompare OLD NEW\n");
+    say(
+        rt,
+        b"    Compares two jobs that are alike but for one price. OLD and NEW name the files of\n",
+    );
+    say(rt, b"    two job records with no limit on cost.\n");
+    say(
+        rt,
+        b"    Prints `by DIFFERENCE`, the new least cost less the old, and both jobs' lines; or\n",
+    );
+    say(rt, b"    `refused NUMBER` and what it means.\n");
 }
 
-fn explain_closest() {
-    say(b"\nclosest JOB\n");
-    say(b"    Searches within a job's limits for the circuit that misses the fewest wanted bits\n");
-    say(b"    of the table: none of them, where `search` finds a circuit.\n");
-    say(b"    Prints `misses NUMBER`, and the circuit's line as `search` does; or `refused\n");
-    say(b"    NUMBER` and what it means.\n");
+fn explain_closest(rt: &impl Print) {
+    say(rt, b"\nclosest JOB\n");
+    say(
+        rt,
+        b"    Searches within a job's limits for the circuit that misses the fewest wanted bits\n",
+    );
+    say(
+        rt,
+        b"    of the table: none of them, where `search` finds a circuit.\n",
+    );
+    say(
+        rt,
+        b"    Prints `misses NUMBER`, and the circuit's line as `search` does; or `refused\n",
+    );
+    say(rt, b"    NUMBER` and what it means.\n");
 }
 
-fn explain_rewrite() {
-    say(b"\nrewrite FILE\n");
-    say(b"    Makes a list of gates cheaper, a few gates at a time. FILE names a file of five\n");
-    say(b"    bytes, the wires, the window and the prices of a NOT, a CNOT and a Toffoli, and\n");
-    say(b"    then up to 4,096 gates.\n");
-    say(b"    Prints `before GATES COST`, `after GATES COST` and the new list; or `refused\n");
-    say(b"    NUMBER` and what it means.\n");
+fn explain_rewrite(rt: &impl Print) {
+    say(rt, b"\nrewrite FILE\n");
+    say(
+        rt,
+        b"    Makes a list of gates cheaper, a few gates at a time. FILE names a file of five\n",
+    );
+    say(
+        rt,
+        b"    bytes, the wires, the window and the prices of a NOT, a CNOT and a Toffoli, and\n",
+    );
+    say(rt, b"    then up to 4,096 gates.\n");
+    say(
+        rt,
+        b"    Prints `before GATES COST`, `after GATES COST` and the new list; or `refused\n",
+    );
+    say(rt, b"    NUMBER` and what it means.\n");
 }
 
-// Whether three files are all open.
-pub fn all_open(job: i32, circuit: i32, library: i32) -> bool {
-    job >= 0 && circuit >= 0 && library >= 0
+// The three files, or what stands for one that no word names, if all are open.
+pub fn all_open<J: Drop, C: Drop, L: Drop>(
+    job: Option<J>,
+    circuit: Option<C>,
+    library: Option<L>,
+) -> Option<(J, C, L)> {
+    match (job, circuit, library) {
+        (Some(job), Some(circuit), Some(library)) => Some((job, circuit, library)),
+        _ => None,
+    }
 }
 
-// Opens the file that word `i` names; where it cannot be read, says so and answers -1.
-pub fn open(i: usize) -> i32 {
+// Opens the file that word `i` names; where it cannot be read, says so and answers `None`.
+pub fn open<R: Env + Files + Print>(rt: &R, i: usize) -> Option<R::File> {
     let mut name = io::buffer();
-    let n = os::arg(i, &mut name);
-    let file = os::open_read(&name[..n]);
-    if is_readable(file) {
-        return file;
+    let n = input::word(rt, i, &mut name);
+    let file = readable(input::open(rt, &name[..n]));
+    if file.is_none() {
+        output::say_unreadable(rt, &name[..n]);
     }
-    output::say_unreadable(&name[..n]);
-    -1
+    file
 }
 
-// Opens the file that word `i` names, if one is named, and else answers 0, for a file that is not read.
-pub fn open_named(named: bool, i: usize) -> i32 {
-    if named { open(i) } else { 0 }
+// Opens the file that word `i` names, if one is named, and else answers `Some(None)`, for a file that is not read.
+pub fn open_named<R: Env + Files + Print>(
+    rt: &R,
+    named: bool,
+    i: usize,
+) -> Option<Option<R::File>> {
+    if named {
+        open(rt, i).map(Some)
+    } else {
+        Some(None)
+    }
 }
 
-// Whether an open file can be read. A folder can be opened, but a read of it fails even for no bytes.
-fn is_readable(file: i32) -> bool {
-    if file < 0 {
-        return false;
+// An open file, if it can be read. A folder can be opened, but a read of it fails even for no bytes.
+fn readable<F: Read + Drop>(file: Option<F>) -> Option<F> {
+    let mut file = file?;
+    let mut nothing = [0u8; 0];
+    match file.read(&mut nothing) {
+        Ok(_) => Some(file),
+        Err(_) => None,
     }
-    let mut nothing = [0u8; 1];
-    libc::read(file, &mut nothing[..0]) >= 0
 }
 
 // Reads the first bytes of a file, at most `room`, and answers how many; none if no file is named.
-pub fn read_part(named: bool, file: i32, room: usize, buffer: &mut [u8]) -> usize
+pub fn read_part<F: Read + Drop>(file: Option<F>, room: usize, buffer: &mut [u8]) -> usize
     requires { room ≤ length buffer.old }
     ensures { result ≤ room }
 {
-    if named {
-        io::read_full(file, &mut buffer[..room])
-    } else {
-        0
+    match file {
+        Some(mut file) => input::read_full(&mut file, &mut buffer[..room]),
+        None => 0,
     }
 }

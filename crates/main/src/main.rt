@@ -2,8 +2,7 @@
 #![tactic(auto)]
 
 use commands::program;
-use libc::STDIN_FILENO;
 
-fn main() {
-    program::answer(STDIN_FILENO);
+fn main(rt: HostRuntime) {
+    program::answer(&rt, &mut rt.stdin());
 }

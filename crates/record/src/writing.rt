@@ -45,7 +45,7 @@ pub fn write_record(
 }
 
 // Copies bytes to the start of a buffer that has room for them, and returns how many. Later bytes stay as they are.
-pub fn copy(bytes: &[u8], buffer: &mut [u8]) -> usize
+fn copy(bytes: &[u8], buffer: &mut [u8]) -> usize
     requires { length bytes.now ≤ length buffer.old }
     ensures value { result ≡ length bytes.now }
     ensures buffer_after { buffer.new ≡ bytes.now ++ drop (length bytes.now) buffer.old }

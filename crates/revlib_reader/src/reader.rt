@@ -10,14 +10,14 @@ use crate::heading::Heading;
 use crate::{gate_lines, heading};
 
 // A text and a position in it.
-#[derive(Drop)]
+#[derive(Clone, Copy)]
 struct Reader<'a> {
     src: &'a [u8],
     at: usize,
 }
 
 // What `next` gives back: the reader behind the line that was read, and that line.
-#[derive(Drop)]
+#[derive(Clone, Copy)]
 struct Step<'a> {
     reader: Reader<'a>,
     line: Line,

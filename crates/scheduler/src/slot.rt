@@ -98,7 +98,8 @@ pub fn fresh(job: &[u8]) -> SlotState
     ensures { view_slot result ≡ begun job.now }
 {
     let mut bytes = [0u8; 30];
-    let size = bytes::copy(job, &mut bytes);
+    let size = job.len();
+    bytes[..size].copy_from_slice(job);
     let at = candidates::first();
     let best = best::nothing();
     SlotState {

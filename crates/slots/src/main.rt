@@ -11,32 +11,31 @@ ghost use Rattle.scheduler.specs.states.Calls.{view_state};
 ghost use Rattle.slots.specs.Work.{job_of, Kept};
 
 use batch::cutting;
-use console::{output, slot_lines};
+use console::{input, output, slot_lines};
 use outcomes::Searched;
 use scheduler::states;
 use scheduler::states::{Posting, Service, Slots};
+use std::rt::Files;
 
-fn main() {
-    if os::arg_count() != 2 {
-        output::say(b"usage: slots FILE\n");
+fn main(rt: HostRuntime) {
+    if input::word_count(&rt) != 2 {
+        output::say(&rt, b"usage: slots FILE\n");
         return;
     }
     let mut name = io::buffer();
-    let n = os::arg(1, &mut name);
-    run_file(&name[..n]);
+    let n = input::word(&rt, 1, &mut name);
+    run_file(&rt, &name[..n]);
 }
 
 // Works through the jobs of a file. A buffer is longer than any batch, so a file that does not fit is refused all the same.
-fn run_file(name: &[u8]) {
-    let file = os::open_read(name);
-    if file < 0 {
-        output::say_unreadable(name);
+fn run_file(rt: &(impl Files + Print), name: &[u8]) {
+    let Some(mut file) = input::open(rt, name) else {
+        output::say_unreadable(rt, name);
         return;
-    }
+    };
     let mut jobs = io::buffer();
-    let n = io::read_full(file, &mut jobs);
-    libc::close(file);
-    run_jobs(&jobs[..n]);
+    let n = input::read_full(&mut file, &mut jobs);
+    run_jobs(rt, &jobs[..n]);
 }
 
 // How far the work has come: the slots, the next job of the file, the first slot to try for it (8 for none), which job each
@@ -57,14 +56,14 @@ fn one_more(n: u64) -> u64 {
 }
 
 // Says which job was answered, counted from 1, and after how many turns.
-fn say_heading(job: usize, turns: u64) {
-    output::say_count(b"job ", job as u64);
-    output::say_count(b" turn ", turns);
-    output::say(b": ");
+fn say_heading(rt: &impl Print, job: usize, turns: u64) {
+    output::say_count(rt, b"job ", job as u64);
+    output::say_count(rt, b" turn ", turns);
+    output::say(rt, b": ");
 }
 
 // What follows a refused post: where the slot is taken (36), the next slot is tried; any other refusal is the job's answer.
-fn after_refusal(w: Work, code: u8) -> Work
+fn after_refusal(rt: &impl Print, w: Work, code: u8) -> Work
     requires { (w.next < 64) × (w.free < 8) }
     ensures { (result.slots ≡ w.slots) × (result.owners ≡ w.owners) }
 {
@@ -73,14 +72,14 @@ fn after_refusal(w: Work, code: u8) -> Work
         next.free = w.free + 1;
         return next;
     }
-    say_heading(w.next + 1, w.turns);
-    slot_lines::say_refused(code);
+    say_heading(rt, w.next + 1, w.turns);
+    slot_lines::say_refused(rt, code);
     next.next = w.next + 1;
     next
 }
 
 // Posts the next job to the slot that is to be tried.
-fn post_next(jobs: &[u8], w: Work) -> Work
+fn post_next(rt: &impl Print, jobs: &[u8], w: Work) -> Work
     requires { (w.next < count_of jobs.now) × ((w.next < 64) × (w.free < 8)) }
     ensures { Kept jobs.now w.owners (view_state w.slots)
         → Kept jobs.now result.owners (view_state result.slots) }
@@ -93,7 +92,7 @@ fn post_next(jobs: &[u8], w: Work) -> Work
     let posted = scheduler::post(w.slots, which, &jobs[start..end]);
     let answer = posted.answer;
     match answer {
-        Posting::Refused(code) => after_refusal(w, code),
+        Posting::Refused(code) => after_refusal(rt, w, code),
         Posting::Accepted => {
             let slots = posted.slots;
             let mut owners = w.owners;
@@ -154,7 +153,7 @@ fn finished_line(slots: Slots, which: usize, out: &mut [u8]) -> Finished
 }
 
 // Collects the answer of the slot that was served, if it is finished, and says it.
-fn collect_served(w: Work, which: usize) -> Work
+fn collect_served(rt: &impl Print, w: Work, which: usize) -> Work
     requires { which < 8 }
     ensures { (jobs : List ℕ) → Kept jobs w.owners (view_state w.slots) → Kept jobs result.owners (view_state result.slots) }
 {
@@ -168,8 +167,8 @@ fn collect_served(w: Work, which: usize) -> Work
     }
     let owners = w.owners;
     let size = line.size;
-    say_heading(owner_at(owners, which), w.turns);
-    output::say(&out[..size]);
+    say_heading(rt, owner_at(owners, which), w.turns);
+    output::say(rt, &out[..size]);
     next.free = which;
     next
 }
@@ -188,7 +187,7 @@ fn counted(number: u8) -> usize
 }
 
 // Takes a turn. Where no slot is working, the work is done.
-fn take_turn(w: Work) -> Work
+fn take_turn(rt: &impl Print, w: Work) -> Work
     ensures { (jobs : List ℕ) → Kept jobs w.owners (view_state w.slots) → Kept jobs result.owners (view_state result.slots) }
 {
     let turned = scheduler::turn(w.slots);
@@ -203,31 +202,31 @@ fn take_turn(w: Work) -> Work
         }
         Service::Slot(i) => {
             next.turns = one_more(w.turns);
-            collect_served(next, i)
+            collect_served(rt, next, i)
         }
     }
 }
 
 // Posts the next job, if there is one and a slot to try for it, and else takes a turn.
-fn step(jobs: &[u8], count: usize, w: Work) -> Work
+fn step(rt: &impl Print, jobs: &[u8], count: usize, w: Work) -> Work
     requires { (count ≡ count_of jobs.now) × (count ≤ 64) }
     ensures { Kept jobs.now w.owners (view_state w.slots)
         → Kept jobs.now result.owners (view_state result.slots) }
 {
     if 8 <= w.free {
-        return take_turn(w);
+        return take_turn(rt, w);
     }
     if count <= w.next {
-        return take_turn(w);
+        return take_turn(rt, w);
     }
-    post_next(jobs, w)
+    post_next(rt, jobs, w)
 }
 
 // Works through jobs that stand back to back, and says the line of each as it is collected.
-fn run_jobs(jobs: &[u8]) {
+fn run_jobs(rt: &impl Print, jobs: &[u8]) {
     let cut = cutting::cut_off(jobs);
     if cut.end != jobs.len() {
-        slot_lines::say_refused(26);
+        slot_lines::say_refused(rt, 26);
         return;
     }
     let slots = states::start();
@@ -244,7 +243,7 @@ fn run_jobs(jobs: &[u8]) {
         if work.done {
             return;
         }
-        let next = step(jobs, cut.count, work);
+        let next = step(rt, jobs, cut.count, work);
         work = next;
         steps += 1;
     }

@@ -12,67 +12,67 @@ mod lines;
 use console::output::{say, say_count, say_number};
 use sizes::Filled;
 
-fn main() {
+fn main(rt: HostRuntime) {
     let mut room = [200u8; 40321];
-    run(&mut room);
+    run(&rt, &mut room);
 }
 
 // Lends the array as a slice. `main` lends it as an array: the checker would go through one of this size element by element.
-fn run(room: &mut [u8; 40321]) {
-    fill_and_tell(room);
+fn run(rt: &impl Print, room: &mut [u8; 40321]) {
+    fill_and_tell(rt, room);
 }
 
-fn fill_and_tell(room: &mut [u8]) {
-    fill_front(room, 40319);
-    fill_front(room, 40321);
-    tell_untouched(room);
-    fill_front(room, 40320);
-    tell_untouched(room);
-    tell_front(room, 40320);
+fn fill_and_tell(rt: &impl Print, room: &mut [u8]) {
+    fill_front(rt, room, 40319);
+    fill_front(rt, room, 40321);
+    tell_untouched(rt, room);
+    fill_front(rt, room, 40320);
+    tell_untouched(rt, room);
+    tell_front(rt, room, 40320);
 }
 
 // Offers so many bytes to be filled.
-fn fill_front(room: &mut [u8], n: usize) {
+fn fill_front(rt: &impl Print, room: &mut [u8], n: usize) {
     if n <= room.len() {
-        fill(&mut room[..n]);
+        fill(rt, &mut room[..n]);
     }
 }
 
-fn tell_front(room: &[u8], n: usize) {
+fn tell_front(rt: &impl Print, room: &[u8], n: usize) {
     if n <= room.len() {
-        tell_sheet(&room[..n]);
+        tell_sheet(rt, &room[..n]);
     }
 }
 
-fn fill(cells: &mut [u8]) {
-    say_number(cells.len() as u64);
+fn fill(rt: &impl Print, cells: &mut [u8]) {
+    say_number(rt, cells.len() as u64);
     match sizes::fill(cells) {
-        Filled::Refused(code) => say_count(b" refused ", code as u64),
-        Filled::Whole => say(b" filled"),
+        Filled::Refused(code) => say_count(rt, b" refused ", code as u64),
+        Filled::Whole => say(rt, b" filled"),
     }
-    say(b"\n");
+    say(rt, b"\n");
 }
 
-fn tell_untouched(room: &[u8]) {
+fn tell_untouched(rt: &impl Print, room: &[u8]) {
     let mut out = [0u8; 64];
     let size = lines::put_number(&mut out, b"untouched ", counts::count(room, 200, 200));
-    say(&out[..size]);
+    say(rt, &out[..size]);
 }
 
 // Says the 26 lines of the cells, and whether the figures differ from those published.
-fn tell_sheet(cells: &[u8]) {
+fn tell_sheet(rt: &impl Print, cells: &[u8]) {
     let mut i = 0;
     while i < 26 {
-        tell_line(cells, i);
+        tell_line(rt, cells, i);
         i += 1;
     }
     if !counts::agrees(cells) {
-        say(b"other figures were published\n");
+        say(rt, b"other figures were published\n");
     }
 }
 
-fn tell_line(cells: &[u8], i: usize) {
+fn tell_line(rt: &impl Print, cells: &[u8], i: usize) {
     let mut out = [0u8; 64];
     let size = lines::put_line(&mut out, cells, i);
-    say(&out[..size]);
+    say(rt, &out[..size]);
 }

@@ -88,36 +88,36 @@ fn third_ok(letter: u8, rest: &[u8]) -> bool {
     }
 }
 
-pub fn say_checked(answer: Checked) {
+pub fn say_checked(rt: &impl Print, answer: Checked) {
     match answer {
-        Checked::Refused(code) => say_refused(code),
-        Checked::Sound => output::say(b"sound"),
+        Checked::Refused(code) => say_refused(rt, code),
+        Checked::Sound => output::say(rt, b"sound"),
     }
 }
 
 // Says the code of a circuit, cut to 16 bytes, with each gate count from 0 to 255 in place of its own: 0 where that makes it sound.
-pub fn say_every(circuit: &[u8]) {
+pub fn say_every(rt: &impl Print, circuit: &[u8]) {
     let mut record = [0u8; 16];
     let n = copy_in(circuit, &mut record);
-    output::say(b"codes");
+    output::say(rt, b"codes");
     let mut count: usize = 0;
     while count < 256 {
-        say_with(record, n, (count % 256) as u8);
+        say_with(rt, record, n, (count % 256) as u8);
         count += 1;
     }
 }
 
 // Says the code of the first `n` bytes of a record, with this gate count.
-fn say_with(record: [u8; 16], n: usize, count: u8) {
+fn say_with(rt: &impl Print, record: [u8; 16], n: usize, count: u8) {
     let mut changed = record;
     changed[2] = count;
-    output::say(b" ");
-    say_code(&changed, n);
+    output::say(rt, b" ");
+    say_code(rt, &changed, n);
 }
 
-fn say_code(circuit: &[u8], n: usize) {
+fn say_code(rt: &impl Print, circuit: &[u8], n: usize) {
     if n <= circuit.len() {
-        output::say_number(circuit_rules::circuit_code(&circuit[..n]) as u64);
+        output::say_number(rt, circuit_rules::circuit_code(&circuit[..n]) as u64);
     }
 }
 
@@ -136,44 +136,44 @@ fn copy_in(bytes: &[u8], out: &mut [u8; 16]) -> usize
     i
 }
 
-pub fn say_ran(answer: Ran) {
+pub fn say_ran(rt: &impl Print, answer: Ran) {
     match answer {
-        Ran::Refused(code) => say_refused(code),
-        Ran::Value(value) => say_value(value),
+        Ran::Refused(code) => say_refused(rt, code),
+        Ran::Value(value) => say_value(rt, value),
     }
 }
 
-fn say_value(value: u8) {
-    output::say(b"value ");
-    data_lines::say_byte(value);
+fn say_value(rt: &impl Print, value: u8) {
+    output::say(rt, b"value ");
+    data_lines::say_byte(rt, value);
 }
 
-pub fn say_measured(answer: Measured) {
+pub fn say_measured(rt: &impl Print, answer: Measured) {
     match answer {
-        Measured::Refused(code) => say_refused(code),
-        Measured::Within(m) => say_within(m),
+        Measured::Refused(code) => say_refused(rt, code),
+        Measured::Within(m) => say_within(rt, m),
     }
 }
 
-fn say_within(m: Measures) {
-    output::say(b"within ");
-    say_measures(m);
+fn say_within(rt: &impl Print, m: Measures) {
+    output::say(rt, b"within ");
+    say_measures(rt, m);
 }
 
-fn say_measures(m: Measures) {
-    output::say_number(m.gates as u64);
-    output::say_count(b" ", m.cost as u64);
-    output::say_count(b" ", m.depth as u64);
-    output::say(b" ");
-    slot_lines::say_ready(m);
+fn say_measures(rt: &impl Print, m: Measures) {
+    output::say_number(rt, m.gates as u64);
+    output::say_count(rt, b" ", m.cost as u64);
+    output::say_count(rt, b" ", m.depth as u64);
+    output::say(rt, b" ");
+    slot_lines::say_ready(rt, m);
 }
 
-pub fn say_difference(difference: i32) {
-    output::say(b"by ");
+pub fn say_difference(rt: &impl Print, difference: i32) {
+    output::say(rt, b"by ");
     if difference::is_negative(difference) {
-        output::say(b"-");
+        output::say(rt, b"-");
     }
-    output::say_number(difference::distance(difference) as u64);
+    output::say_number(rt, difference::distance(difference) as u64);
 }
 
 // The number in the first two bytes, high byte first.
@@ -181,28 +181,28 @@ pub fn number_in(bytes: &[u8]) -> u16 {
     logic::at(bytes, 0) as u16 * 256 + logic::at(bytes, 1) as u16
 }
 
-pub fn say_parity(answer: TableParity) {
+pub fn say_parity(rt: &impl Print, answer: TableParity) {
     match answer {
-        TableParity::Refused(code) => say_refused(code),
-        TableParity::Even => output::say(b"even"),
-        TableParity::Odd => output::say(b"odd"),
-        TableParity::Neither => output::say(b"neither"),
+        TableParity::Refused(code) => say_refused(rt, code),
+        TableParity::Even => output::say(rt, b"even"),
+        TableParity::Odd => output::say(rt, b"odd"),
+        TableParity::Neither => output::say(rt, b"neither"),
     }
 }
 
-pub fn say_found(size: usize, m: Measures) {
-    output::say_count(b"found ", size as u64);
-    output::say(b" ");
-    say_measures(m);
+pub fn say_found(rt: &impl Print, size: usize, m: Measures) {
+    output::say_count(rt, b"found ", size as u64);
+    output::say(rt, b" ");
+    say_measures(rt, m);
 }
 
-pub fn say_near(size: usize, m: Measures, misses: usize) {
-    say_found(size, m);
-    output::say_count(b" misses ", misses as u64);
+pub fn say_near(rt: &impl Print, size: usize, m: Measures, misses: usize) {
+    say_found(rt, size, m);
+    output::say_count(rt, b" misses ", misses as u64);
 }
 
-pub fn say_jobs(count: usize) {
-    output::say_count(b"jobs ", count as u64);
+pub fn say_jobs(rt: &impl Print, count: usize) {
+    output::say_count(rt, b"jobs ", count as u64);
 }
 
 // Fills a list with the gates, over and over; with 0 where there is none.
@@ -218,19 +218,19 @@ fn remainder(i: usize, n: usize) -> usize {
     if n == 0 { 0 } else { i % n }
 }
 
-pub fn say_gates(count: usize) {
-    output::say_count(b"gates ", count as u64);
+pub fn say_gates(rt: &impl Print, count: usize) {
+    output::say_count(rt, b"gates ", count as u64);
 }
 
 // Says the first `size` bytes of a text but the last, which is a line feed.
-pub fn say_front(text: &[u8], size: usize) {
+pub fn say_front(rt: &impl Print, text: &[u8], size: usize) {
     if 0 < size {
         if size <= text.len() {
-            output::say(&text[..size - 1]);
+            output::say(rt, &text[..size - 1]);
         }
     }
 }
 
-pub fn say_refused(code: u8) {
-    output::say_count(b"refused ", code as u64);
+pub fn say_refused(rt: &impl Print, code: u8) {
+    output::say_count(rt, b"refused ", code as u64);
 }

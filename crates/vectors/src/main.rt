@@ -11,112 +11,112 @@ ghost use Rattle.std.specs.Prelude.{◌≤◌, length};
 use approximate::Nearest;
 use batch::Batched;
 use commands::{program, search_files};
-use console::{data_lines, output};
+use console::{data_lines, input, output};
 use library::calls;
 use outcomes::Searched;
 use peephole::Rewritten;
 use printed::rewriting;
 use sensitivity::{Change, difference};
+use std::rt::Files;
 use verify::runs;
 
-fn main() {
-    run_base();
-    run_later();
-    run_program();
+fn main(rt: HostRuntime) {
+    run_base(&rt);
+    run_later(&rt);
+    run_program(&rt);
 }
 
 // The calls of document 01, and the same calls on the longer jobs and the marked circuits of document 02.
-fn run_base() {
-    run_file(b"jobs");
-    run_file(b"circuits");
-    run_file(b"counts");
-    run_file(b"running");
-    run_file(b"measuring");
-    run_file(b"verifying");
-    run_file(b"parity");
-    run_file(b"longer");
-    run_file(b"marked");
-    run_file(b"search");
-    run_file(b"lines");
+fn run_base(rt: &(impl Files + Print)) {
+    run_file(rt, b"jobs");
+    run_file(rt, b"circuits");
+    run_file(rt, b"counts");
+    run_file(rt, b"running");
+    run_file(rt, b"measuring");
+    run_file(rt, b"verifying");
+    run_file(rt, b"parity");
+    run_file(rt, b"longer");
+    run_file(rt, b"marked");
+    run_file(rt, b"search");
+    run_file(rt, b"lines");
 }
 
 // The calls that document 02 adds.
-fn run_later() {
-    run_file(b"library");
-    run_file(b"batches");
-    run_file(b"prices");
-    run_file(b"closest");
-    run_file(b"listings");
+fn run_later(rt: &(impl Files + Print)) {
+    run_file(rt, b"library");
+    run_file(rt, b"batches");
+    run_file(rt, b"prices");
+    run_file(rt, b"closest");
+    run_file(rt, b"listings");
 }
 
 // What `main` and `gazbolk search` print for three inputs.
-fn run_program() {
+fn run_program(rt: &(impl Files + Print)) {
     output::say(
+        rt,
         b"# main, gazbolk search: no input at all; four data wires and an ancilla; a sound job with one byte more\n",
     );
-    print_both(b"empty");
-    print_both(b"four");
-    print_both(b"long");
+    print_both(rt, b"empty");
+    print_both(rt, b"four");
+    print_both(rt, b"long");
 }
 
-fn print_both(name: &[u8]) {
-    answer_file(name);
-    explain_file(name);
+fn print_both(rt: &(impl Files + Print), name: &[u8]) {
+    answer_file(rt, name);
+    explain_file(rt, name);
 }
 
 // What `main` prints when its standard input is this file.
-fn answer_file(name: &[u8]) {
-    let file = os::open_read(name);
-    if file < 0 {
-        output::say_unreadable(name);
+fn answer_file(rt: &(impl Files + Print), name: &[u8]) {
+    let Some(mut file) = input::open(rt, name) else {
+        output::say_unreadable(rt, name);
         return;
-    }
-    program::answer(file);
-    libc::close(file);
+    };
+    program::answer(rt, &mut file);
 }
 
 // What `gazbolk search` prints for this file.
-fn explain_file(name: &[u8]) {
+fn explain_file(rt: &(impl Files + Print), name: &[u8]) {
     let mut job = io::buffer();
-    let n = data_lines::read_file(name, &mut job);
-    explain(&job[..n]);
+    let n = data_lines::read_file(rt, name, &mut job);
+    explain(rt, &job[..n]);
 }
 
-fn explain(job: &[u8]) {
+fn explain(rt: &impl Print, job: &[u8]) {
     let mut out = [0u8; 128];
     let size = search_files::search_text(job, false, job, &mut out);
-    output::say(&out[..size]);
+    output::say(rt, &out[..size]);
 }
 
 // Runs the lines of a file of fewer than 65,536 bytes.
-fn run_file(name: &[u8]) {
+fn run_file(rt: &(impl Files + Print), name: &[u8]) {
     let mut text = io::large_buffer();
-    let n = data_lines::read_file(name, &mut text);
-    run_lines(&text[..n]);
+    let n = data_lines::read_file(rt, name, &mut text);
+    run_lines(rt, &text[..n]);
 }
 
-fn run_lines(text: &[u8]) {
+fn run_lines(rt: &impl Print, text: &[u8]) {
     let mut at = 0;
     let mut number = 0;
     while at < text.len() {
         let end = data_lines::find(text, at, b'\n');
         number += 1;
-        run_line(&text[at..end], number);
+        run_line(rt, &text[at..end], number);
         at = data_lines::past(text, end);
     }
 }
 
-fn run_line(line: &[u8], number: usize) {
+fn run_line(rt: &impl Print, line: &[u8], number: usize) {
     if call_lines::is_call(line) {
-        run_call(line);
+        run_call(rt, line);
     } else {
-        data_lines::say_other(line, number);
+        data_lines::say_other(rt, line, number);
     }
-    output::say(b"\n");
+    output::say(rt, b"\n");
 }
 
 // Makes the call of a line: a name, and one to three words of bytes.
-fn run_call(line: &[u8]) {
+fn run_call(rt: &impl Print, line: &[u8]) {
     let a = data_lines::find(line, 0, b' ');
     let from = data_lines::past(line, a);
     let b = data_lines::find(line, from, b' ');
@@ -126,70 +126,79 @@ fn run_call(line: &[u8]) {
     let mut second = io::buffer();
     let n = data_lines::decode(&line[from..b], &mut first);
     let m = data_lines::decode(&line[to..c], &mut second);
-    with_third(line, data_lines::past(line, c), &first[..n], &second[..m]);
+    with_third(
+        rt,
+        line,
+        data_lines::past(line, c),
+        &first[..n],
+        &second[..m],
+    );
 }
 
 // Reads the third word, which begins at `at`, and makes the call.
-fn with_third(line: &[u8], at: usize, first: &[u8], second: &[u8])
+fn with_third(rt: &impl Print, line: &[u8], at: usize, first: &[u8], second: &[u8])
     requires { at ≤ length line.now }
 {
     let mut third = io::buffer();
     let k = data_lines::decode(&line[at..], &mut third);
-    dispatch(logic::at(line, 0), first, second, &third[..k]);
+    dispatch(rt, logic::at(line, 0), first, second, &third[..k]);
 }
 
 // Makes the call whose name begins with this letter: no two do.
-fn dispatch(letter: u8, first: &[u8], second: &[u8], third: &[u8]) {
+fn dispatch(rt: &impl Print, letter: u8, first: &[u8], second: &[u8], third: &[u8]) {
     match letter {
-        b'j' => call_lines::say_checked(record::check_job(first)),
-        b'c' => call_lines::say_checked(record::check_circuit(first)),
-        b'e' => call_lines::say_every(first),
-        b'f' => call_lines::say_ran(runs::run_forwards(first, logic::at(second, 0))),
-        b'b' => call_lines::say_ran(runs::run_backwards(first, logic::at(second, 0))),
-        b'm' => call_lines::say_measured(verify::measure(first, second)),
-        b'v' => call_lines::say_measured(verify::verify(first, second)),
-        b'p' => call_lines::say_parity(parity::parity(first)),
-        _ => dispatch_search(letter, first, second, third),
+        b'j' => call_lines::say_checked(rt, record::check_job(first)),
+        b'c' => call_lines::say_checked(rt, record::check_circuit(first)),
+        b'e' => call_lines::say_every(rt, first),
+        b'f' => call_lines::say_ran(rt, runs::run_forwards(first, logic::at(second, 0))),
+        b'b' => call_lines::say_ran(rt, runs::run_backwards(first, logic::at(second, 0))),
+        b'm' => call_lines::say_measured(rt, verify::measure(first, second)),
+        b'v' => call_lines::say_measured(rt, verify::verify(first, second)),
+        b'p' => call_lines::say_parity(rt, parity::parity(first)),
+        _ => dispatch_search(rt, letter, first, second, third),
     }
 }
 
 // The calls that search, and those with a library or two jobs.
-fn dispatch_search(letter: u8, first: &[u8], second: &[u8], third: &[u8]) {
+fn dispatch_search(rt: &impl Print, letter: u8, first: &[u8], second: &[u8], third: &[u8]) {
     match letter {
-        b's' => say_search(first, second, false, logic::at(second, 0)),
-        b'l' => say_line(first),
-        b'a' => say_search(first, second, true, logic::at(third, 0)),
-        b'w' => call_lines::say_measured(calls::verify_with(first, second, third)),
-        b't' => say_batch(first, second, logic::at(third, 0)),
-        b'd' => say_change(sensitivity::price_change(first, second)),
-        b'g' => call_lines::say_difference(difference::cost_difference(
-            call_lines::number_in(first),
-            call_lines::number_in(second),
-        )),
-        b'n' => say_closest(first, logic::at(second, 0)),
-        b'r' => say_rewrite(first, second, third),
-        _ => output::say(b"unknown"),
+        b's' => say_search(rt, first, second, false, logic::at(second, 0)),
+        b'l' => say_line(rt, first),
+        b'a' => say_search(rt, first, second, true, logic::at(third, 0)),
+        b'w' => call_lines::say_measured(rt, calls::verify_with(first, second, third)),
+        b't' => say_batch(rt, first, second, logic::at(third, 0)),
+        b'd' => say_change(rt, sensitivity::price_change(first, second)),
+        b'g' => call_lines::say_difference(
+            rt,
+            difference::cost_difference(
+                call_lines::number_in(first),
+                call_lines::number_in(second),
+            ),
+        ),
+        b'n' => say_closest(rt, first, logic::at(second, 0)),
+        b'r' => say_rewrite(rt, first, second, third),
+        _ => output::say(rt, b"unknown"),
     }
 }
 
-fn say_change(answer: Change) {
+fn say_change(rt: &impl Print, answer: Change) {
     match answer {
-        Change::Refused(code) => call_lines::say_refused(code),
-        Change::By(difference) => call_lines::say_difference(difference),
+        Change::Refused(code) => call_lines::say_refused(rt, code),
+        Change::By(difference) => call_lines::say_difference(rt, difference),
     }
 }
 
 // Searches with a numbered buffer of `room` bytes, and says the answer and the whole buffer.
-fn say_search(job: &[u8], library: &[u8], among: bool, room: u8) {
+fn say_search(rt: &impl Print, job: &[u8], library: &[u8], among: bool, room: u8) {
     let mut buffer = data_lines::numbered();
     let n = room as usize;
-    search_whole(job, library, among, &mut buffer[..n]);
+    search_whole(rt, job, library, among, &mut buffer[..n]);
 }
 
-fn search_whole(job: &[u8], library: &[u8], among: bool, answer: &mut [u8]) {
-    say_searched(search_one(job, library, among, answer));
-    output::say(b" ");
-    data_lines::say_bytes(answer);
+fn search_whole(rt: &impl Print, job: &[u8], library: &[u8], among: bool, answer: &mut [u8]) {
+    say_searched(rt, search_one(job, library, among, answer));
+    output::say(rt, b" ");
+    data_lines::say_bytes(rt, answer);
 }
 
 // Searches among the gates of a library, or among those that the job allows.
@@ -201,100 +210,103 @@ fn search_one(job: &[u8], library: &[u8], among: bool, answer: &mut [u8]) -> Sea
     }
 }
 
-fn say_searched(answer: Searched) {
+fn say_searched(rt: &impl Print, answer: Searched) {
     match answer {
-        Searched::Refused(code) => call_lines::say_refused(code),
-        Searched::Found(size, m) => call_lines::say_found(size, m),
+        Searched::Refused(code) => call_lines::say_refused(rt, code),
+        Searched::Found(size, m) => call_lines::say_found(rt, size, m),
     }
 }
 
 // Searches for the closest circuit with a numbered buffer of `room` bytes, and says the answer and the whole buffer.
-fn say_closest(job: &[u8], room: u8) {
+fn say_closest(rt: &impl Print, job: &[u8], room: u8) {
     let mut buffer = data_lines::numbered();
     let n = room as usize;
-    closest_whole(job, &mut buffer[..n]);
+    closest_whole(rt, job, &mut buffer[..n]);
 }
 
-fn closest_whole(job: &[u8], answer: &mut [u8]) {
-    say_nearest(approximate::closest(job, answer));
-    output::say(b" ");
-    data_lines::say_bytes(answer);
+fn closest_whole(rt: &impl Print, job: &[u8], answer: &mut [u8]) {
+    say_nearest(rt, approximate::closest(job, answer));
+    output::say(rt, b" ");
+    data_lines::say_bytes(rt, answer);
 }
 
-fn say_nearest(answer: Nearest) {
+fn say_nearest(rt: &impl Print, answer: Nearest) {
     match answer {
-        Nearest::Refused(code) => call_lines::say_refused(code),
-        Nearest::Found(size, m, misses) => call_lines::say_near(size, m, misses),
+        Nearest::Refused(code) => call_lines::say_refused(rt, code),
+        Nearest::Found(size, m, misses) => call_lines::say_near(rt, size, m, misses),
     }
 }
 
 // Searches for the jobs of a batch with numbered buffers, and says the answer and both buffers whole. `answers` and `statuses` are the
 // buffers' lengths.
-fn say_batch(jobs: &[u8], answers: &[u8], statuses: u8) {
+fn say_batch(rt: &impl Print, jobs: &[u8], answers: &[u8], statuses: u8) {
     let n = call_lines::number_in(answers) as usize;
     let mut cells = data_lines::numbered();
-    batch_into(jobs, &mut cells, n, statuses);
+    batch_into(rt, jobs, &mut cells, n, statuses);
 }
 
-fn batch_into(jobs: &[u8], cells: &mut [u8], n: usize, statuses: u8) {
+fn batch_into(rt: &impl Print, jobs: &[u8], cells: &mut [u8], n: usize, statuses: u8) {
     if n <= cells.len() {
-        batch_with(jobs, &mut cells[..n], statuses);
+        batch_with(rt, jobs, &mut cells[..n], statuses);
     }
 }
 
-fn batch_with(jobs: &[u8], cells: &mut [u8], statuses: u8) {
+fn batch_with(rt: &impl Print, jobs: &[u8], cells: &mut [u8], statuses: u8) {
     let mut buffer = data_lines::numbered();
     let n = statuses as usize;
-    batch_whole(jobs, cells, &mut buffer[..n]);
+    batch_whole(rt, jobs, cells, &mut buffer[..n]);
 }
 
-fn batch_whole(jobs: &[u8], cells: &mut [u8], codes: &mut [u8]) {
-    say_batched(batch::search_all(jobs, cells, codes));
-    output::say(b" ");
-    data_lines::say_bytes(cells);
-    output::say(b" ");
-    data_lines::say_bytes(codes);
+fn batch_whole(rt: &impl Print, jobs: &[u8], cells: &mut [u8], codes: &mut [u8]) {
+    say_batched(rt, batch::search_all(jobs, cells, codes));
+    output::say(rt, b" ");
+    data_lines::say_bytes(rt, cells);
+    output::say(rt, b" ");
+    data_lines::say_bytes(rt, codes);
 }
 
-fn say_batched(answer: Batched) {
+fn say_batched(rt: &impl Print, answer: Batched) {
     match answer {
-        Batched::Refused(code) => call_lines::say_refused(code),
-        Batched::Jobs(count) => call_lines::say_jobs(count),
+        Batched::Refused(code) => call_lines::say_refused(rt, code),
+        Batched::Jobs(count) => call_lines::say_jobs(rt, count),
     }
 }
 
 // Rewrites a list of the gates, over and over until it is as long as `size` says, and says the answer and the whole list. The setting is
 // the wires, the window and three prices.
-fn say_rewrite(setting: &[u8], gates: &[u8], size: &[u8]) {
+fn say_rewrite(rt: &impl Print, setting: &[u8], gates: &[u8], size: &[u8]) {
     let n = call_lines::number_in(size) as usize;
     let mut list = io::large_buffer();
-    rewrite_into(setting, gates, &mut list, n);
+    rewrite_into(rt, setting, gates, &mut list, n);
 }
 
-fn rewrite_into(setting: &[u8], gates: &[u8], list: &mut [u8], n: usize) {
+fn rewrite_into(rt: &impl Print, setting: &[u8], gates: &[u8], list: &mut [u8], n: usize) {
     if n <= list.len() {
-        rewrite_whole(setting, gates, &mut list[..n]);
+        rewrite_whole(rt, setting, gates, &mut list[..n]);
     }
 }
 
-fn rewrite_whole(setting: &[u8], gates: &[u8], list: &mut [u8]) {
+fn rewrite_whole(rt: &impl Print, setting: &[u8], gates: &[u8], list: &mut [u8]) {
     call_lines::repeat(gates, list);
     let prices = rewriting::prices_in(setting);
-    say_rewritten(peephole::rewrite(logic::at(setting, 0), logic::at(setting, 1), prices, list));
-    output::say(b" ");
-    data_lines::say_bytes(list);
+    say_rewritten(
+        rt,
+        peephole::rewrite(logic::at(setting, 0), logic::at(setting, 1), prices, list),
+    );
+    output::say(rt, b" ");
+    data_lines::say_bytes(rt, list);
 }
 
-fn say_rewritten(answer: Rewritten) {
+fn say_rewritten(rt: &impl Print, answer: Rewritten) {
     match answer {
-        Rewritten::Refused(code) => call_lines::say_refused(code),
-        Rewritten::Gates(count) => call_lines::say_gates(count),
+        Rewritten::Refused(code) => call_lines::say_refused(rt, code),
+        Rewritten::Gates(count) => call_lines::say_gates(rt, count),
     }
 }
 
 // Says the line that `main` prints for a job, without its line feed.
-fn say_line(job: &[u8]) {
+fn say_line(rt: &impl Print, job: &[u8]) {
     let mut out = [0u8; 64];
     let size = program::line(job, &mut out);
-    call_lines::say_front(&out, size);
+    call_lines::say_front(rt, &out, size);
 }

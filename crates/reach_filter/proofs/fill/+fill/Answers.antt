@@ -21,7 +21,7 @@ returns-then-k-eq0-clause-near t c = let seen = seen_joined c.note.new.bits c.ar
 pub fill-requires : goal.fill-requires
 fill-requires t c =
     let k = c.loop-i.invariant.1.0 in
-    let e = c.?measure in
+    let e = c.decreases in
     let g = get_or c.args.gates.now c.loop-i.i 0 in
     let first = seen_joined c.note.new.bits c.args.reach c.args.columns c.args.but c.note.ensures.seen_but (λ b. c.note.ensures.grown _ (c.requires b)) in
     let seen : Seen c.loop-i.bits c.args.reach c.args.columns = λ x y. c.loop-i.invariant.1.1.1.0 _ (first x y) in (

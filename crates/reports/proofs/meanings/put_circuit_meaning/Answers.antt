@@ -1,6 +1,3 @@
-use mathlib.Core.Path.{refl}
-use native.Mathlib.Omega.{arith}
-use borrow.Author.Rules.{rules}
 use borrow.Author.Tests.{ne_eqb}
 use Rattle.reports.specs.sentences.Meanings.{said, circuit_meaning}
 use Rattle.reports.proofs.meanings.put_circuit_meaning.Goals as goal

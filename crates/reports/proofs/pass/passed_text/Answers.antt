@@ -1,6 +1,5 @@
 -- The two lines, one after the other: together they are the text, and the rest of the buffer stays.
 use native.Mathlib.Omega.{arith}
-use borrow.Author.Rules.{rules}
 use Rattle.text.specs.pieces.Writing.{Wrote}
 use Rattle.text.proofs.pieces.Pieces.{more, line_size, line_in_front}
 use Rattle.reports.specs.refusal.Report.{passed_text}

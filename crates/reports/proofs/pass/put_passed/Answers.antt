@@ -1,6 +1,5 @@
 -- Five pieces, each written after the last: together they are the line.
 use native.Mathlib.Omega.{arith}
-use borrow.Author.Rules.{rules}
 use Rattle.text.proofs.pieces.Pieces.{more, spaced_short, decimal_short}
 use Rattle.reports.specs.refusal.Report.{passed_line}
 use Rattle.reports.proofs.pass.put_passed.Goals as goal

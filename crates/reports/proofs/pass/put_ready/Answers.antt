@@ -1,6 +1,5 @@
 -- The word, the times and a line feed, each written after the last.
 use native.Mathlib.Omega.{arith}
-use borrow.Author.Rules.{rules}
 use Rattle.text.proofs.pieces.Pieces.{more}
 use Rattle.reports.specs.refusal.Report.{ready_line}
 use Rattle.reports.proofs.refusal.Short.{times_short}

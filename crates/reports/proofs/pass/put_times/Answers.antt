@@ -1,6 +1,5 @@
 -- Five times, each written after the last.
 use native.Mathlib.Omega.{arith}
-use borrow.Author.Rules.{rules}
 use Rattle.text.proofs.pieces.Pieces.{more, spaced_short}
 use Rattle.reports.specs.refusal.Report.{times}
 use Rattle.reports.proofs.pass.put_times.Goals as goal

@@ -1,6 +1,5 @@
 -- The line, the sentence and a line feed, each written after the last.
 use native.Mathlib.Omega.{arith}
-use borrow.Author.Rules.{rules}
 use Rattle.text.specs.pieces.Writing.{Wrote}
 use Rattle.text.proofs.pieces.Pieces.{more, line_size, line_in_front}
 use Rattle.reports.specs.refusal.Report.{refused_text}
@@ -14,7 +13,7 @@ whole : (c : After-slice_known-4-1)
     → Wrote c.args.out.now 0 (refused_text c.args.code) c.put.new.out c.put.result
 unfolding refused_text
 whole c =
-    more c.Put-refused.ensures (more c.put_meaning-b.ensures c.put.ensures)
+    more c.put_refused-a.ensures (more c.put_meaning-b.ensures c.put.ensures)
 
 pub put_meaning-b-requires : goal.put_meaning-b-requires
 put_meaning-b-requires c = omega (arith, refused_line_short c.args.code)

@@ -1,7 +1,4 @@
 -- Each arm writes the words of its number; the last one has passed every number of the list.
-use mathlib.Core.Path.{refl}
-use native.Mathlib.Omega.{arith}
-use borrow.Author.Rules.{rules}
 use borrow.Author.Tests.{ne_eqb}
 use Rattle.reports.specs.sentences.Meanings.{said, library_meaning}
 use Rattle.reports.proofs.sentences.put_library_meaning.Goals as goal

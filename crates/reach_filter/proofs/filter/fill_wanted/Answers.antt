@@ -1,0 +1,11 @@
+use mathlib.Core.Path.{subst}
+use mathlib.Core.List.{List}
+use Prim.Native.Nat.{ℕ}
+use borrow.Author.Rules.{rules}
+use Rattle.bloom.specs.hash.Reach.{Seen}
+use Rattle.bloom.proofs.hash.Joined.{seen_at_first}
+use Rattle.reach_filter.specs.fill.Sieve.{Near}
+use Rattle.reach_filter.proofs.filter.fill_wanted.Goals as goal
+
+pub fill-requires : goal.fill-requires
+fill-requires c = seen_at_first c.note.new.bits c.args.reach c.aim_of-columns.result c.note.ensures.seen_but

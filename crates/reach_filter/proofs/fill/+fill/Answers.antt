@@ -1,14 +1,12 @@
-use mathlib.Core.Path.{◌≡◌, refl, sym, ◌∙◌, subst}
+use mathlib.Core.Path.{sym, ◌∙◌, subst}
 use mathlib.Core.List.{List}
-use Prim.Native.Nat.{ℕ, ◌+◌, ◌-◌, ◌/◌, ◌^◌, ◌≤◌, ◌<◌}
+use Prim.Native.Nat.{ℕ, ◌-◌, ◌/◌}
 use native.Mathlib.Omega.{arith}
 use borrow.Author.Count.{below_more}
-use borrow.Author.Rules.{rules}
-use lib.ListN.{length, get_or}
+use lib.ListN.{get_or}
 use Rattle.gate.specs.Gates.{gate_of}
 use Rattle.gate.specs.Inner.{column_step}
 use Rattle.bloom.specs.hash.Reach.{Seen, SeenWithout}
-use Rattle.bloom.specs.bits.Places.{Grown}
 use Rattle.bloom.proofs.hash.Joined.{seen_joined}
 use Rattle.reach_filter.specs.fill.Sieve.{Near}
 use Rattle.reach_filter.proofs.fill.Nearby.{near_none, near_more, near_map}
@@ -31,22 +29,21 @@ fill-requires t c =
     )
 
 pub loop-i-preserved : goal.loop-i-preserved
-loop-i-preserved t c =
+loop-i-preserved t c = (
+  omega arith,
+  (
+    c.loop-i.invariant.1.0,
     (
-      omega arith,
+      c.fill.ensures.bits_len_unchanged ∙ c.loop-i.invariant.1.1.0,
       (
-        c.loop-i.invariant.1.0,
-        (
-          c.fill.ensures.bits_len_unchanged ∙ c.loop-i.invariant.1.1.0,
-          (
-            (λ k h. c.fill.ensures.grown k (c.loop-i.invariant.1.1.1.0 k h)),
-            below_more (λ (j : ℕ). Near (Seen c.fill.new.bits c.args.reach) c.args.gates.now (column_step (gate_of (get_or c.args.gates.now j 0)) c.args.columns) (c.args.k - 1)) c.loop-i.i
-                (λ j l. near_map (Seen c.loop-i.bits c.args.reach) (Seen c.fill.new.bits c.args.reach) c.args.gates.now (λ cs h x y. c.fill.ensures.grown _ (h x y)) (column_step (gate_of (get_or c.args.gates.now j 0)) c.args.columns) (c.args.k - 1) (c.loop-i.invariant.1.1.1.1 j l))
-                (subst (λ (cs : List ℕ). Near (Seen c.fill.new.bits c.args.reach) c.args.gates.now cs (c.args.k - 1)) c.step-next.ensures c.fill.ensures.near),
-          ),
-        ),
+        (λ k h. c.fill.ensures.grown k (c.loop-i.invariant.1.1.1.0 k h)),
+        below_more (λ (j : ℕ). Near (Seen c.fill.new.bits c.args.reach) c.args.gates.now (column_step (gate_of (get_or c.args.gates.now j 0)) c.args.columns) (c.args.k - 1)) c.loop-i.i
+            (λ j l. near_map (Seen c.loop-i.bits c.args.reach) (Seen c.fill.new.bits c.args.reach) c.args.gates.now (λ cs h x y. c.fill.ensures.grown _ (h x y)) (column_step (gate_of (get_or c.args.gates.now j 0)) c.args.columns) (c.args.k - 1) (c.loop-i.invariant.1.1.1.1 j l))
+            (subst (λ (cs : List ℕ). Near (Seen c.fill.new.bits c.args.reach) c.args.gates.now cs (c.args.k - 1)) c.step-next.ensures c.fill.ensures.near),
       ),
-    )
+    ),
+  ),
+)
 
 pub returns-clause-near : goal.returns-clause-near
 returns-clause-near t c = let first = seen_joined c.note.new.bits c.args.reach c.args.columns c.args.but c.note.ensures.seen_but (λ b. c.note.ensures.grown _ (c.requires b)) in near_more (Seen c.loop-i.bits c.args.reach) c.args.gates.now c.args.columns c.args.k c.loop-i.invariant.1.0 (λ x y. c.loop-i.invariant.1.1.1.0 _ (first x y)) (λ j l. c.loop-i.invariant.1.1.1.1 j (omega arith))

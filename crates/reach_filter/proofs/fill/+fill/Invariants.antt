@@ -1,20 +1,13 @@
 -- The recursion: the state itself is put in, then all within one gate fewer of what each gate makes of it. The invariant: no bit was
 -- cleared, and the gates passed are done. The gates still to go fall.
-use mathlib.Core.Path.{◌≡◌, refl, sym, ◌∙◌, subst}
-use mathlib.Core.List.{List}
-use Prim.Native.Nat.{ℕ, ◌+◌, ◌-◌, ◌/◌, ◌^◌, ◌≤◌, ◌<◌}
-use native.Mathlib.Omega.{arith}
-use borrow.Author.Count.{below_more}
-use borrow.Author.Rules.{rules}
+use mathlib.Core.Path.{◌≡◌}
+use Prim.Native.Nat.{ℕ, ◌-◌, ◌≤◌, ◌<◌}
 use lib.ListN.{length, get_or}
 use Rattle.gate.specs.Gates.{gate_of}
 use Rattle.gate.specs.Inner.{column_step}
-use Rattle.bloom.specs.hash.Reach.{Seen, SeenWithout}
+use Rattle.bloom.specs.hash.Reach.{Seen}
 use Rattle.bloom.specs.bits.Places.{Grown}
-use Rattle.bloom.proofs.hash.Joined.{seen_joined}
 use Rattle.reach_filter.specs.fill.Sieve.{Near}
-use Rattle.reach_filter.proofs.fill.Nearby.{near_none, near_more, near_map}
-use Rattle.reach_filter.proofs.fill.Cuts.{seen_next}
 use Rattle.reach_filter.proofs.fill.+fill.Given as goal
 
 abbrev pub invariant-loop-i : goal.invariant-loop-i

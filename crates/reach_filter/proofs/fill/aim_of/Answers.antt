@@ -1,5 +1,4 @@
 use mathlib.Core.List.{[], ◌∷◌}
-use borrow.Author.Rules.{rules}
 use Rattle.reach_filter.specs.fill.Sieve.{aim_of}
 use Rattle.reach_filter.proofs.fill.aim_of.Goals as goal
 

@@ -1,10 +1,4 @@
-use mathlib.Core.Path.{subst}
-use mathlib.Core.List.{List}
-use Prim.Native.Nat.{ℕ}
-use borrow.Author.Rules.{rules}
-use Rattle.bloom.specs.hash.Reach.{Seen}
 use Rattle.bloom.proofs.hash.Joined.{seen_at_first}
-use Rattle.reach_filter.specs.fill.Sieve.{Near}
 use Rattle.reach_filter.proofs.filter.fill_wanted.Goals as goal
 
 pub fill-requires : goal.fill-requires

@@ -1,6 +1,5 @@
 use mathlib.Core.Path.{sym, ◌∙◌}
 use mathlib.Core.Bool.{not}
-use borrow.Author.Rules.{rules}
 use lib.Dec.{eqb}
 use Rattle.logic.proofs.Chain.{both_right}
 use Rattle.reach_filter.proofs.fill.Sieves.{either_sieve}

@@ -1,6 +1,5 @@
 use mathlib.Core.Path.{ap₂}
 use lib.Bits.{bit_and}
-use borrow.Author.Rules.{rules}
 use Rattle.reach_filter.specs.fill.Sieve.{rows_of}
 use Rattle.reach_filter.proofs.filter.rows_of.Goals as goal
 

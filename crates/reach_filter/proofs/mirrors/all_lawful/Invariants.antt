@@ -1,14 +1,9 @@
 -- The invariant: the gates passed are lawful.
-use mathlib.Core.Path.{◌≡◌, sym, ◌∙◌}
-use mathlib.Core.Bool.{true, false≢true}
+use mathlib.Core.Path.{◌≡◌}
+use mathlib.Core.Bool.{true}
 use Prim.Native.Nat.{ℕ, ◌+◌, ◌-◌, ◌≤◌, ◌<◌}
-use native.Mathlib.Omega.{arith}
-use borrow.Author.Count.{below_more}
-use borrow.Author.Rules.{rules}
-use borrow.Author.Tests.{not-false}
 use lib.ListN.{length, get_or}
 use Rattle.gate.specs.Gates.{lawful}
-use Rattle.reach_filter.proofs.mirrors.Turn.{width_le}
 use Rattle.reach_filter.proofs.mirrors.all_lawful.Given as goal
 
 abbrev pub invariant-loop-i : goal.invariant-loop-i

@@ -1,12 +1,8 @@
 -- The invariant: the gates passed have mirrors.
 use mathlib.Core.Path.{◌≡◌}
-use mathlib.Core.Bool.{true, false≢true}
+use mathlib.Core.Bool.{true}
 use mathlib.Core.List.{Memᴰ}
 use Prim.Native.Nat.{ℕ, ◌-◌, ◌≤◌, ◌<◌}
-use native.Mathlib.Omega.{arith}
-use borrow.Author.Count.{below_more}
-use borrow.Author.Rules.{rules}
-use borrow.Author.Tests.{not-false}
 use lib.ListN.{length, get_or}
 use Rattle.reach_filter.specs.mirrors.Mirrors.{mirrors}
 use Rattle.reach_filter.proofs.mirrors.all_mirrored.Given as goal

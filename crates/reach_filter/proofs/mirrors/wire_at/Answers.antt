@@ -1,10 +1,8 @@
 use mathlib.Core.Path.{ap}
 use Prim.Native.Nat.{ℕ, ◌-◌, ◌*◌, ◌/◌, ◌%◌, ◌^◌}
 use native.Mathlib.Omega.{arith}
-use borrow.Author.Rules.{rules}
 use borrow.Author.Tests.{lt-ltb, le-ltb}
 use Rattle.reach_filter.specs.mirrors.Mirrors.{wire_at}
-use Rattle.reach_filter.proofs.mirrors.Turn.{width_le}
 use Rattle.reach_filter.proofs.mirrors.wire_at.Goals as goal
 
 pub returns-then-w-n-clause-value : goal.returns-then-w-n-clause-value

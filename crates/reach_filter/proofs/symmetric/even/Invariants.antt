@@ -1,10 +1,6 @@
 -- The invariant: the wires passed have the factor of the wire laid out for them.
-use mathlib.Core.Path.{◌≡◌, sym, ap, ◌∙◌}
-use mathlib.Core.Bool.{false≢true}
+use mathlib.Core.Path.{◌≡◌}
 use Prim.Native.Nat.{ℕ, ◌-◌, ◌≤◌, ◌<◌}
-use native.Mathlib.Omega.{arith}
-use borrow.Author.Count.{below_more}
-use borrow.Author.Rules.{rules}
 use lib.ListN.{get_or}
 use Rattle.reach_filter.specs.mirrors.Mirrors.{wire_at}
 use Rattle.reach_filter.proofs.symmetric.even.Given as goal

@@ -1,18 +1,16 @@
 use mathlib.Core.Path.{◌≡◌, sym, ◌∙◌, subst}
-use mathlib.Core.Bool.{true, false≢true}
+use mathlib.Core.Bool.{true}
 use mathlib.Core.List.{List, Memᴰ}
-use Prim.Native.Nat.{ℕ, ◌+◌, ◌-◌, ◌≤◌, ◌<◌}
+use Prim.Native.Nat.{ℕ, ◌+◌, ◌<◌}
 use native.Mathlib.Omega.{arith}
 use borrow.Author.Count.{below_more}
-use borrow.Author.Rules.{rules}
-use borrow.Author.Tests.{not-false}
 use lib.ListN.{length, get_or}
 use Rattle.logic.proofs.Chain.{both_left, both_right}
 use Rattle.logic.proofs.Members.{place_of}
 use Rattle.gate.specs.Gates.{lawful}
 use Rattle.table.specs.layouts.Layouts.{layouts_for}
 use Rattle.bloom.specs.declared.hash.Reach.{Reach}
-use Rattle.reach_filter.specs.mirrors.Mirrors.{wire_at, mirrors}
+use Rattle.reach_filter.specs.mirrors.Mirrors.{mirrors}
 use Rattle.reach_filter.specs.fill.Sieve.{Sound}
 use Rattle.reach_filter.proofs.symmetric.sound.Goals as goal
 use Rattle.reach_filter.proofs.symmetric.sound.Invariants.{Suits}
@@ -34,8 +32,7 @@ all_suit gates r n free kinds suits = record {
 
 pub loop-i-preserved : goal.loop-i-preserved
 loop-i-preserved c =
-    let tested = sym c.both.ensures ∙ c.if-not-both.false in
-    (
+    let tested = sym c.both.ensures ∙ c.if-not-both.false in (
       omega arith,
       below_more (λ (j : ℕ). Suits c.args.gates.now c.args.reach.factors c.args.n (get_or (layouts_for c.args.n c.args.free) j 0)) c.loop-i.i c.loop-i.invariant.1
           (subst (λ (q : ℕ). Suits c.args.gates.now c.args.reach.factors c.args.n q) c.layout_at-p.ensures

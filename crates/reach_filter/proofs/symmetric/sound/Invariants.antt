@@ -1,20 +1,11 @@
 -- The invariant: under the layouts passed every gate has a mirror, and the factors are even.
-use mathlib.Core.Path.{◌≡◌, sym, ◌∙◌, subst}
-use mathlib.Core.Bool.{true, false≢true}
+use mathlib.Core.Path.{◌≡◌}
+use mathlib.Core.Bool.{true}
 use mathlib.Core.List.{List, Memᴰ}
-use Prim.Native.Nat.{ℕ, ◌+◌, ◌-◌, ◌≤◌, ◌<◌}
-use native.Mathlib.Omega.{arith}
-use borrow.Author.Count.{below_more}
-use borrow.Author.Rules.{rules}
-use borrow.Author.Tests.{not-false}
+use Prim.Native.Nat.{ℕ, ◌-◌, ◌≤◌, ◌<◌}
 use lib.ListN.{length, get_or}
-use Rattle.logic.proofs.Chain.{both_left, both_right}
-use Rattle.logic.proofs.Members.{place_of}
-use Rattle.gate.specs.Gates.{lawful}
 use Rattle.table.specs.layouts.Layouts.{layouts_for}
-use Rattle.bloom.specs.declared.hash.Reach.{Reach}
 use Rattle.reach_filter.specs.mirrors.Mirrors.{wire_at, mirrors}
-use Rattle.reach_filter.specs.fill.Sieve.{Sound}
 use Rattle.reach_filter.proofs.symmetric.sound.Given as goal
 
 -- what a layout is tested for

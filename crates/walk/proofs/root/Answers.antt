@@ -1,9 +1,7 @@
-use borrow.Author.Rules.{rules}
 use mathlib.Core.Path.{refl}
 use native.Mathlib.Omega.{arith}
 use Rattle.logic.specs.Lists.{along, total}
 use Rattle.logic.proofs.Members.{among_nil}
-use Rattle.circuit.proofs.Times.{idle_until}
 use Rattle.walk.proofs.root.Goals as goal
 
 pub returns-clause-at : goal.returns-clause-at

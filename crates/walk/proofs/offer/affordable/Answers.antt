@@ -1,5 +1,4 @@
 -- A list that costs more than the cap, or has more gates than the cost left buys, does not change the incumbent.
-use borrow.Author.Rules.{rules}
 use mathlib.Core.Path.{sym, ◌∙◌}
 use native.Mathlib.Omega.{arith}
 use borrow.Author.Tests.{ltb-true}
@@ -18,4 +17,4 @@ returns-then-unaffordable-clause-enough c =
 pub returns-clause-enough : goal.returns-clause-enough
 returns-clause-enough c =
     let i = c.if-most-cost.false in λ P bounded at. enough_gates P c.args.task.cost_limit c.args.least c.args.s bounded at c.cap-most.result c.args.remaining (view c.args.best) (c.cap-most.ensures P)
-          c.buys.result (omega arith) c.buys.ensures.value
+    c.buys.result (omega arith) c.buys.ensures.value

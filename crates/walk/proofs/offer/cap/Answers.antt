@@ -1,4 +1,3 @@
-use borrow.Author.Rules.{rules}
 use Rattle.problem.specs.order.View.{view}
 use Rattle.problem.proofs.order.First.{attempt_not}
 use Rattle.problem.proofs.order.Held.{dearer_left}

@@ -1,15 +1,13 @@
-use mathlib.Core.Path.{◌≡◌, refl, ap, ◌∙◌}
+use mathlib.Core.Path.{refl, ap, ◌∙◌}
 use mathlib.Core.List.{List, map}
-use Prim.Native.Nat.{ℕ, ◌≤◌, ◌-◌}
+use Prim.Native.Nat.{ℕ}
 use native.Mathlib.Omega.{arith}
-use borrow.Author.Rules.{rules}
-use lib.ListN.{length, take}
 use lib.Seq.{take_all}
 use Rattle.table.specs.layouts.Layouts.{layouts_for}
 use Rattle.problem.specs.order.Choices.{Choice, attempt, improve}
 use Rattle.problem.specs.order.View.{view}
-use Rattle.problem.specs.Problems.{Problem, choice_of, within}
-use Rattle.walk.specs.node.States.{list_of, Asks, At}
+use Rattle.problem.specs.Problems.{choice_of, within}
+use Rattle.walk.specs.node.States.{list_of}
 use Rattle.walk.proofs.node.Nodes.{here_is, layouts_turn}
 use Rattle.walk.proofs.offer.consider.Goals as goal
 
@@ -19,8 +17,7 @@ loop-i-init c = (omega arith, (c.layout_count-count.ensures, (c.requires.len_bou
 
 pub loop-i-preserved : goal.loop-i-preserved
 loop-i-preserved c =
-    let h = c.loop-i-test.true in
-    (
+    let h = c.loop-i-test.true in (
       omega arith,
       (
         c.loop-i.invariant.1.0,
@@ -39,6 +36,6 @@ pub returns-clause-result_value : goal.returns-clause-result_value
 returns-clause-result_value c =
     let h = c.loop-i-test.false in
     let ls = layouts_for c.args.task.outputs c.args.task.free in (λ P asks at.
-          c.loop-i.invariant.1.1.1 P asks at
-          ∙ ap (λ (l : List ℕ). improve (within P c.args.task.cost_limit) (view c.args.best) (map (choice_of P (list_of c.args.s)) l)) (take_all c.loop-i.i ls (omega (arith, c.loop-i.invariant.1.0)))
-          ∙ ap (λ (l : List Choice). improve (within P c.args.task.cost_limit) (view c.args.best) l) (here_is P c.args.task (list_of c.args.s) asks))
+    c.loop-i.invariant.1.1.1 P asks at
+    ∙ ap (λ (l : List ℕ). improve (within P c.args.task.cost_limit) (view c.args.best) (map (choice_of P (list_of c.args.s)) l)) (take_all c.loop-i.i ls (omega (arith, c.loop-i.invariant.1.0)))
+    ∙ ap (λ (l : List Choice). improve (within P c.args.task.cost_limit) (view c.args.best) l) (here_is P c.args.task (list_of c.args.s) asks))

@@ -1,17 +1,13 @@
 -- Invariant: after i layouts the incumbent is the first of the one before the loop and the list with each of them.
-use mathlib.Core.Path.{◌≡◌, refl, ap, ◌∙◌}
-use mathlib.Core.List.{List, map}
-use Prim.Native.Nat.{ℕ, ◌≤◌, ◌-◌}
-use native.Mathlib.Omega.{arith}
-use borrow.Author.Rules.{rules}
+use mathlib.Core.Path.{◌≡◌}
+use mathlib.Core.List.{map}
+use Prim.Native.Nat.{◌≤◌, ◌-◌}
 use lib.ListN.{length, take}
-use lib.Seq.{take_all}
 use Rattle.table.specs.layouts.Layouts.{layouts_for}
-use Rattle.problem.specs.order.Choices.{Choice, attempt, improve}
+use Rattle.problem.specs.order.Choices.{improve}
 use Rattle.problem.specs.order.View.{view}
 use Rattle.problem.specs.Problems.{Problem, choice_of, within}
 use Rattle.walk.specs.node.States.{list_of, Asks, At}
-use Rattle.walk.proofs.node.Nodes.{here_is, layouts_turn}
 use Rattle.walk.proofs.offer.consider.Given as goal
 
 abbrev pub invariant-loop-i : goal.invariant-loop-i

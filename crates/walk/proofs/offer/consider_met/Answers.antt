@@ -1,6 +1,5 @@
 use mathlib.Core.Path.{sym}
 use native.Mathlib.Omega.{arith}
-use borrow.Author.Rules.{rules}
 use Rattle.problem.specs.order.View.{view}
 use Rattle.walk.proofs.node.Pruning.{here_lost}
 use Rattle.walk.proofs.offer.consider_met.Goals as goal

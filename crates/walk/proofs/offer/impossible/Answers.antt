@@ -1,8 +1,7 @@
 -- The place asked for is that of every list of so many gates that comes to the limit; where it is not marked there is none.
 use mathlib.Core.Path.{◌≡◌, sym, ◌∙◌}
-use mathlib.Core.Bool.{Bool, false, false≢true}
+use mathlib.Core.Bool.{Bool, false}
 use Prim.Native.Nat.{ℕ, ◌+◌, ◌≤◌}
-use borrow.Author.Rules.{rules}
 use borrow.Author.Tests.{eqb-true, ltb-false}
 use lib.Dec.{ltb}
 use Rattle.logic.specs.Rules.{either}

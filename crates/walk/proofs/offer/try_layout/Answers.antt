@@ -1,8 +1,6 @@
 -- The test of the code is `within`, so the layout is offered exactly where that holds.
-use borrow.Author.Rules.{rules}
 use mathlib.Core.Path.{◌≡◌, refl, sym, ap, ap₂, ◌∙◌}
 use Prim.Native.Nat.{ℕ}
-use borrow.Author.Tests.{not-true, not-false}
 use lib.Dec.{leb}
 use Rattle.logic.specs.Rules.{both}
 use Rattle.problem.specs.order.Choices.{keep}
@@ -27,6 +25,6 @@ returns-then-not-both-clause-result_value c = (λ P asks at. sym (attempt_not (w
 pub returns-clause-result_value : goal.returns-clause-result_value
 returns-clause-result_value c =
     (λ P asks at.
-          let m = mine_is P c.args.task c.args.s asks at c.args.p _ refl c.latest-depth.ensures refl refl refl in
-          c.offer.ensures.result_value ∙ ap (keep (view c.args.best)) m
-          ∙ sym (attempt_good (within P c.args.task.cost_limit) (view c.args.best) (choice_of P (list_of c.args.s) c.args.p) (sym (tested (goal.at.returns-clause-result_value c).After-both P asks at) ∙ c.if-not-both.false)))
+    let m = mine_is P c.args.task c.args.s asks at c.args.p _ refl c.latest-depth.ensures refl refl refl in
+    c.offer.ensures.result_value ∙ ap (keep (view c.args.best)) m
+    ∙ sym (attempt_good (within P c.args.task.cost_limit) (view c.args.best) (choice_of P (list_of c.args.s) c.args.p) (sym (tested (goal.at.returns-clause-result_value c).After-both P asks at) ∙ c.if-not-both.false)))

@@ -1,4 +1,3 @@
-use borrow.Author.Rules.{rules}
 use mathlib.Core.Path.{ap₂, ◌∙◌}
 use Rattle.logic.specs.Rules.{either}
 use Rattle.walk.proofs.node.Forms.{needless_told}

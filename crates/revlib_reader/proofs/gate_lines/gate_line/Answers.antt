@@ -1,11 +1,5 @@
 -- The letters at their places, tested against the rules and against the text.
-use mathlib.Core.Path.{◌≡◌, sym}
-use mathlib.Core.List.{[], ◌∷◌}
-use Prim.Native.Nat.{ℕ}
-use lib.ListN.{length, take}
-use lib.Seq.{length-take-le}
 use Rattle.revlib_reader.proofs.gate_lines.Lines.{a_gate, no_gate}
-use borrow.Author.Rules.{rules}
 use Rattle.revlib_reader.proofs.gate_lines.gate_line.Goals as goal
 
 pub returns-then-both : goal.returns-then-both

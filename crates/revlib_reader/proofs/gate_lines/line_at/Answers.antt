@@ -1,6 +1,5 @@
 -- The line by what it begins with.
 use mathlib.Core.Path.{◌≡◌, sym, ◌∙◌}
-use borrow.Author.Rules.{rules}
 use lib.ListN.{drop}
 use Rattle.revlib_reader.specs.declared.gate_lines.Opener.{Opener}
 use Rattle.revlib_reader.specs.gate_lines.Tokens.{opening, opener_of}

@@ -2,7 +2,6 @@ use mathlib.Core.Path.{sym, ap, ◌∙◌}
 use borrow.Author.Tests.{ne_eqb}
 use Rattle.revlib.specs.Reading.{announced, end_here}
 use Rattle.revlib_reader.specs.gate_lines.Tokens.{opener_of}
-use borrow.Author.Rules.{rules}
 use Rattle.revlib_reader.proofs.gate_lines.opener_at.Goals as goal
 
 pub returns-then-end_here : goal.returns-then-end_here

@@ -1,9 +1,7 @@
-use mathlib.Core.Path.{ap, ◌∙◌}
-use Prim.Native.Nat.{ℕ, ◌^◌, ◌≤◌}
+use Prim.Native.Nat.{◌≤◌}
 use native.Mathlib.Omega.{arith}
 use lib.Pow.{pow_mono}
 use Rattle.logic.proofs.Bits.{shifted_one}
-use borrow.Author.Rules.{rules}
 use Rattle.revlib_reader.proofs.gate_words.control.Goals as goal
 
 pub returns-clause-upper_bound : goal.returns-clause-upper_bound

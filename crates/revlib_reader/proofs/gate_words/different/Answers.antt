@@ -1,11 +1,8 @@
 use mathlib.Core.Bool.{true, false}
-use mathlib.Core.Path.{◌≡◌, refl, sym, ◌∙◌}
-use Prim.Native.Nat.{◌≤◌, ◌-◌, ◌+◌}
+use mathlib.Core.Path.{sym, ◌∙◌}
+use Prim.Native.Nat.{◌+◌}
 use native.Mathlib.Omega.{arith}
-use borrow.Author.Rules.{rules}
-use lib.ListN.{length, drop}
 use Rattle.logic.proofs.Rest.{part}
-use Rattle.revlib.specs.Grammar.{different}
 use Rattle.revlib_reader.proofs.gate_words.Loops.{different_turn, different_done}
 use Rattle.revlib_reader.proofs.gate_words.different.Goals as goal
 

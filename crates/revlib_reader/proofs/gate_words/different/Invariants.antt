@@ -1,13 +1,8 @@
 -- Each letter is looked up among those after it. Invariant: the letters from i on are different exactly if all are.
-use mathlib.Core.Bool.{true, false}
-use mathlib.Core.Path.{◌≡◌, refl, sym, ◌∙◌}
-use Prim.Native.Nat.{◌≤◌, ◌-◌, ◌+◌}
-use native.Mathlib.Omega.{arith}
-use borrow.Author.Rules.{rules}
+use mathlib.Core.Path.{◌≡◌}
+use Prim.Native.Nat.{◌≤◌, ◌-◌}
 use lib.ListN.{length, drop}
-use Rattle.logic.proofs.Rest.{part}
 use Rattle.revlib.specs.Grammar.{different}
-use Rattle.revlib_reader.proofs.gate_words.Loops.{different_turn, different_done}
 use Rattle.revlib_reader.proofs.gate_words.different.Given as goal
 
 abbrev pub invariant-loop-i : goal.invariant-loop-i

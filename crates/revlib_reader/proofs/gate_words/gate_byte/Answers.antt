@@ -5,7 +5,6 @@ use native.Mathlib.Omega.{arith}
 use lib.ListN.{length}
 use Rattle.logic.proofs.Members.{spelled}
 use Rattle.revlib.specs.Grammar.{gate_byte}
-use borrow.Author.Rules.{rules}
 use Rattle.revlib_reader.proofs.gate_words.gate_byte.Goals as goal
 
 pub returns-in-1 : goal.returns-in-1

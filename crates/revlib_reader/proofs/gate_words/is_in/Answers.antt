@@ -1,11 +1,7 @@
-use mathlib.Core.Path.{◌≡◌, refl, sym, ◌∙◌}
+use mathlib.Core.Path.{sym, ◌∙◌}
 use mathlib.Core.Bool.{true, false}
-use Prim.Native.Nat.{◌≤◌, ◌-◌}
 use native.Mathlib.Omega.{arith}
 use borrow.Author.Tests.{eq-eqb, ne_eqb}
-use borrow.Author.Rules.{rules}
-use lib.ListN.{length, drop}
-use Rattle.revlib.specs.Grammar.{is_in}
 use Rattle.revlib_reader.proofs.gate_words.Loops.{in_turn, in_done}
 use Rattle.revlib_reader.proofs.gate_words.is_in.Goals as goal
 

@@ -1,13 +1,8 @@
 -- The letters are compared one by one. Invariant: the letter is among those from i on exactly if it is in the list.
-use mathlib.Core.Path.{◌≡◌, refl, sym, ◌∙◌}
-use mathlib.Core.Bool.{true, false}
+use mathlib.Core.Path.{◌≡◌}
 use Prim.Native.Nat.{◌≤◌, ◌-◌}
-use native.Mathlib.Omega.{arith}
-use borrow.Author.Tests.{eq-eqb, ne_eqb}
-use borrow.Author.Rules.{rules}
 use lib.ListN.{length, drop}
 use Rattle.revlib.specs.Grammar.{is_in}
-use Rattle.revlib_reader.proofs.gate_words.Loops.{in_turn, in_done}
 use Rattle.revlib_reader.proofs.gate_words.is_in.Given as goal
 
 abbrev pub invariant-loop-i : goal.invariant-loop-i

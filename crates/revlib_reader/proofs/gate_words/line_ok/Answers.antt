@@ -1,5 +1,4 @@
 use mathlib.Core.Path.{◌∙◌, ap₂}
-use borrow.Author.Rules.{rules}
 use Rattle.logic.specs.Rules.{both}
 use Rattle.revlib.specs.Grammar.{line_ok}
 use Rattle.revlib_reader.proofs.gate_words.line_ok.Goals as goal

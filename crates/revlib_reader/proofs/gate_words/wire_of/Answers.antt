@@ -1,10 +1,5 @@
-use mathlib.Core.Path.{◌≡◌}
-use Prim.Native.Nat.{◌+◌, ◌≤◌, ◌-◌}
 use native.Mathlib.Omega.{arith}
 use borrow.Author.Tests.{eq-eqb, ne_eqb}
-use borrow.Author.Rules.{rules}
-use lib.ListN.{length, drop}
-use Rattle.revlib.specs.Grammar.{wire_of}
 use Rattle.revlib_reader.proofs.gate_words.Loops.{wire_here, wire_later, wire_done}
 use Rattle.revlib_reader.proofs.gate_words.wire_of.Goals as goal
 

@@ -1,12 +1,8 @@
 -- The letters are passed one by one. Invariant: the index of the letter is i plus its index among the letters from i on.
 use mathlib.Core.Path.{◌≡◌}
 use Prim.Native.Nat.{◌+◌, ◌≤◌, ◌-◌}
-use native.Mathlib.Omega.{arith}
-use borrow.Author.Tests.{eq-eqb, ne_eqb}
-use borrow.Author.Rules.{rules}
 use lib.ListN.{length, drop}
 use Rattle.revlib.specs.Grammar.{wire_of}
-use Rattle.revlib_reader.proofs.gate_words.Loops.{wire_here, wire_later, wire_done}
 use Rattle.revlib_reader.proofs.gate_words.wire_of.Given as goal
 
 abbrev pub invariant-loop-i : goal.invariant-loop-i

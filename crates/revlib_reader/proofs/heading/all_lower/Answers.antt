@@ -1,10 +1,5 @@
-use mathlib.Core.Path.{◌≡◌, refl, sym, ◌∙◌}
-use Prim.Native.Nat.{◌≤◌, ◌-◌}
+use mathlib.Core.Path.{sym, ◌∙◌}
 use native.Mathlib.Omega.{arith}
-use borrow.Author.Tests.{not-true, not-false}
-use borrow.Author.Rules.{rules}
-use lib.ListN.{length, drop}
-use Rattle.logic.specs.Lists.{all_of}
 use Rattle.logic.proofs.Fold.{all_stop, all_step, all_end}
 use Rattle.revlib.specs.Grammar.{lower_case}
 use Rattle.revlib_reader.proofs.heading.all_lower.Goals as goal
@@ -17,12 +12,11 @@ returns-then-not-both c =
 
 pub loop-i-preserved : goal.loop-i-preserved
 unfolding lower_case
-loop-i-preserved c =
-    (
-      omega arith,
-      all_step lower_case c.args.letters.now c.loop-i.i 0 c.loop-i.invariant.1 (omega arith)
-          (sym c.both.ensures ∙ c.if-not-both.false),
-    )
+loop-i-preserved c = (
+  omega arith,
+  all_step lower_case c.args.letters.now c.loop-i.i 0 c.loop-i.invariant.1 (omega arith)
+      (sym c.both.ensures ∙ c.if-not-both.false),
+)
 
 pub returns : goal.returns
 returns c = all_end lower_case c.args.letters.now c.loop-i.i 0 c.loop-i.invariant.1 (omega arith)

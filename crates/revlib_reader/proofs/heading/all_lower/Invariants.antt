@@ -1,12 +1,8 @@
 -- The letters are tested one by one. Invariant: those from i on are lower case exactly if all are.
-use mathlib.Core.Path.{◌≡◌, refl, sym, ◌∙◌}
+use mathlib.Core.Path.{◌≡◌}
 use Prim.Native.Nat.{◌≤◌, ◌-◌}
-use native.Mathlib.Omega.{arith}
-use borrow.Author.Tests.{not-true, not-false}
-use borrow.Author.Rules.{rules}
 use lib.ListN.{length, drop}
 use Rattle.logic.specs.Lists.{all_of}
-use Rattle.logic.proofs.Fold.{all_stop, all_step, all_end}
 use Rattle.revlib.specs.Grammar.{lower_case}
 use Rattle.revlib_reader.proofs.heading.all_lower.Given as goal
 

@@ -1,7 +1,6 @@
 use Rattle.revlib.specs.Grammar.{constants_line, constants_word}
 use Rattle.revlib_reader.specs.heading.Inner.{closing}
 use Rattle.revlib.proofs.Sound.{four}
-use borrow.Author.Rules.{rules}
 use Rattle.revlib_reader.proofs.heading.constants_here.Goals as goal
 
 pub returns-then-n-eq3 : goal.returns-then-n-eq3

@@ -3,13 +3,11 @@ use mathlib.Core.Path.{◌≡◌, sym, ap, ap₂, ◌∙◌}
 use mathlib.Core.Bool.{true}
 use mathlib.Core.List.{List}
 use Prim.Native.Nat.{ℕ, ◌+◌, ◌*◌, ◌≤◌}
-use borrow.Author.Tests.{not-true, not-false}
 use lib.ListN.{length, drop}
 use Rattle.revlib.specs.Grammar.{ancilla_count}
 use Rattle.revlib.specs.Reading.{starts, constants_of}
 use Rattle.revlib_reader.specs.heading.Inner.{names_ok, letters_line, closing}
 use Rattle.revlib_reader.proofs.heading.Headings.{three_or_four, sized, refused_heading, tested_heading}
-use borrow.Author.Rules.{rules}
 use Rattle.revlib_reader.proofs.heading.heading_here.Goals as goal
 use Rattle.revlib_reader.proofs.heading.heading_here.Goals.{Else-not-heading_ok}
 

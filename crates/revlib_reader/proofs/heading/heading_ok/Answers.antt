@@ -1,5 +1,4 @@
 use Rattle.revlib_reader.specs.heading.Inner.{names_ok}
-use borrow.Author.Rules.{rules}
 use Rattle.revlib_reader.proofs.heading.heading_ok.Goals as goal
 
 pub returns : goal.returns

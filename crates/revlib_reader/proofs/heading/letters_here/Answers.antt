@@ -8,7 +8,6 @@ use Rattle.logic.proofs.Members.{spelled}
 use Rattle.revlib.specs.Grammar.{spaced}
 use Rattle.revlib.specs.Reading.{starts}
 use Rattle.revlib_reader.specs.heading.Inner.{letters_line}
-use borrow.Author.Rules.{rules}
 use Rattle.revlib_reader.proofs.heading.letters_here.Goals as goal
 
 pub returns-in-3 : goal.returns-in-3

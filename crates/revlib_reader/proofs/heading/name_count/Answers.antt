@@ -1,6 +1,5 @@
 use native.Mathlib.Omega.{arith}
 use Rattle.revlib_reader.proofs.heading.Headings.{name_number}
-use borrow.Author.Rules.{rules}
 use Rattle.revlib_reader.proofs.heading.name_count.Goals as goal
 
 pub returns-then-digit-lt48-clause-value : goal.returns-then-digit-lt48-clause-value

@@ -1,5 +1,4 @@
 use Rattle.revlib_reader.specs.heading.Inner.{five_at}
-use borrow.Author.Rules.{rules}
 use Rattle.revlib_reader.proofs.heading.names.Goals as goal
 
 pub returns : goal.returns

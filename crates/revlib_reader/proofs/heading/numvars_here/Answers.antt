@@ -1,7 +1,6 @@
 use mathlib.Core.Path.{◌≡◌}
 use native.Mathlib.Omega.{arith}
 use Rattle.revlib.specs.Grammar.{numvars_line}
-use borrow.Author.Rules.{rules}
 use Rattle.revlib_reader.proofs.heading.numvars_here.Goals as goal
 
 pub returns-in-3 : goal.returns-in-3

@@ -1,5 +1,4 @@
 use Rattle.revlib_reader.proofs.heading.Headings.{opening_pieces}
-use borrow.Author.Rules.{rules}
 use Rattle.revlib_reader.proofs.heading.opening_here.Goals as goal
 
 pub returns : goal.returns

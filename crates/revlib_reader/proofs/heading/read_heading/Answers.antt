@@ -1,10 +1,5 @@
 -- The results of all tests, joined.
-use mathlib.Core.Path.{◌≡◌, sym}
-use native.Mathlib.Omega.{arith}
-use lib.ListN.{length, length-take}
-use lib.Seq.{length-take-le}
 use Rattle.revlib_reader.proofs.heading.Headings.{heading_read}
-use borrow.Author.Rules.{rules}
 use Rattle.revlib_reader.proofs.heading.read_heading.Goals as goal
 
 pub returns : goal.returns

@@ -1,5 +1,4 @@
 use Rattle.revlib_reader.specs.heading.Inner.{closes}
-use borrow.Author.Rules.{rules}
 use Rattle.revlib_reader.proofs.heading.says_ancilla.Goals as goal
 
 pub returns : goal.returns

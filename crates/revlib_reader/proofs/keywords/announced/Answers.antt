@@ -1,6 +1,5 @@
 use mathlib.Core.Path.{sym, ◌∙◌}
 use Rattle.revlib.specs.Reading.{announced}
-use borrow.Author.Rules.{rules}
 use Rattle.revlib_reader.proofs.keywords.announced.Goals as goal
 
 pub returns-then-starts : goal.returns-then-starts

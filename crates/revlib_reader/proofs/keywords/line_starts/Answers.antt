@@ -7,7 +7,6 @@ use lib.ListN.{length}
 use Rattle.logic.proofs.Members.{spelled}
 use Rattle.revlib.specs.Grammar.{spaced, gate_line}
 use Rattle.revlib.specs.Reading.{starts}
-use borrow.Author.Rules.{rules}
 use Rattle.revlib_reader.proofs.keywords.line_starts.Goals as goal
 
 pub returns-in-1 : goal.returns-in-1

@@ -1,14 +1,9 @@
 -- The bytes are compared one by one. Invariant: the text from i on begins with the word from i on exactly if the text begins with the
 -- word.
-use mathlib.Core.Path.{◌≡◌, refl, sym, ◌∙◌}
-use mathlib.Core.Bool.{true, false}
+use mathlib.Core.Path.{◌≡◌}
 use Prim.Native.Nat.{◌≤◌, ◌-◌}
-use native.Mathlib.Omega.{arith}
-use borrow.Author.Tests.{eq-eqb, ne_eqb}
-use borrow.Author.Rules.{rules}
 use lib.ListN.{length, drop}
 use Rattle.revlib.specs.Reading.{starts}
-use Rattle.revlib_reader.proofs.keywords.Beginnings.{starts_turn, starts_short, starts_done}
 use Rattle.revlib_reader.proofs.keywords.starts.Given as goal
 
 abbrev pub invariant-loop-i : goal.invariant-loop-i

@@ -1,5 +1,4 @@
 use borrow.Author.Tests.{lt-ltb, le-ltb}
-use native.Mathlib.Omega.{arith}
 use Rattle.revlib_reader.specs.reader.Steps.{fewer}
 use Rattle.revlib_reader.proofs.reader.fewer.Goals as goal
 

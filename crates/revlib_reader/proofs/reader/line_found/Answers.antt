@@ -4,11 +4,9 @@ use mathlib.Core.Bool.{true}
 use mathlib.Core.List.{List}
 use Prim.Native.Nat.{ℕ}
 use native.Mathlib.Omega.{arith}
-use borrow.Author.Rules.{rules}
-use borrow.Author.Tests.{ltb-true, not-true, not-false}
+use borrow.Author.Tests.{ltb-true}
 use lib.Dec.{ltb}
 use lib.ListN.{length, take, drop}
-use lib.Seq.{length-take-le}
 use Rattle.logic.specs.Rules.{both}
 use Rattle.logic.proofs.Chain.{both_right}
 use Rattle.revlib_reader.specs.declared.gate_lines.Line.{Line}
@@ -26,17 +24,24 @@ ahead : (l : After-line_at) → both (ltb l.args.at (length l.args.s.now)) (ltb 
 ahead l = sym l.both.ensures ∙ l.if-not-both.false
 
 -- the line that was read is the one in the text
-line-is : (l : After-line_at) → l.line_at_lem.result ≡ line_in (letters_of l.args.head) l.args.s.now l.args.at
+line-is : (l : After-line_at) → l.line_at.result ≡ line_in (letters_of l.args.head) l.args.s.now l.args.at
 line-is l =
-    l.line_at_lem.ensures ∙ ap (λ (w : ℕ). line_of (take w l.args.head.letters) (drop l.args.at l.args.s.now)) l.fewer-wires.ensures.value
+    l.line_at.ensures ∙ ap (λ (w : ℕ). line_of (take w l.args.head.letters) (drop l.args.at l.args.s.now)) l.fewer-wires.ensures.value
     ∙ inside (letters_of l.args.head) l.args.s.now l.args.at (ahead l)
 
-told : (l : After-line_at) (x : Line) → l.line_at_lem.result ≡ x → line_in (letters_of l.args.head) l.args.s.now l.args.at ≡ x
+told : (l : After-line_at) (x : Line) → l.line_at.result ≡ x → line_in (letters_of l.args.head) l.args.s.now l.args.at ≡ x
 told l x e = sym (line-is l) ∙ e
 
 pub returns-then-not-both : goal.returns-then-not-both
 unfolding line_in
 returns-then-not-both c = let h = sym c.both.ensures ∙ c.if-not-both.true in rw h
+
+pub overflow_add-result : goal.overflow_add-result
+overflow_add-result c =
+    let l = (goal.at.overflow_add-result c).After-line_at in
+    let a = ltb-true c.args.at 4096 (both_right (ltb c.args.at (length c.args.s.now)) (ltb c.args.at 4096) (ahead l)) in
+    let z = line_size _ (drop c.args.at c.args.s.now) _ _ (sym l.line_at.ensures ∙ c.in-Gate.is) in
+    omega arith
 
 pub returns-in-Gate : goal.returns-in-Gate
 returns-in-Gate c = rw (told (goal.at.returns-in-Gate c).After-line_at _ c.in-Gate.is)

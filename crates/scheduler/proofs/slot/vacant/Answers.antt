@@ -1,0 +1,7 @@
+use mathlib.Core.Path.{refl}
+use borrow.Author.Rules.{rules}
+use Rattle.scheduler.proofs.slot.Slots.{none_there}
+use Rattle.scheduler.proofs.slot.vacant.Goals as goal
+
+pub returns : goal.returns
+returns c = none_there _ refl

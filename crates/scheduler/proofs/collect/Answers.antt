@@ -1,7 +1,5 @@
 -- A rule broken, and nothing changes; or the slot's answer is told and the slot emptied.
-use mathlib.Core.Path.{◌≡◌, refl, sym, ap, ◌∙◌}
-use native.Mathlib.Omega.{arith}
-use borrow.Author.Rules.{rules}
+use mathlib.Core.Path.{◌≡◌, sym, ap, ◌∙◌}
 use lib.ListN.{length}
 use Rattle.logic.specs.Answers.{Answer, refused}
 use Rattle.outcomes.specs.Outcomes.{Found, reported, written}

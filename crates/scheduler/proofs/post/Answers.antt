@@ -1,11 +1,10 @@
 -- A rule broken, or the slot filled.
-use mathlib.Core.Path.{◌≡◌, refl, sym, ap, ◌∙◌}
-use borrow.Author.Rules.{rules}
+use mathlib.Core.Path.{◌≡◌, sym, ap, ◌∙◌}
 use Rattle.logic.specs.Answers.{refused}
 use Rattle.scheduler.specs.slot.Slots.{Slot}
 use Rattle.scheduler.specs.states.States.{post_code, with_slot}
 use Rattle.scheduler.specs.states.Calls.{view_state}
-use Rattle.scheduler.proofs.states.Rules.{answered_never, post_parts, post_refused, post_accepted}
+use Rattle.scheduler.proofs.states.Rules.{post_parts, post_refused, post_accepted}
 use Rattle.scheduler.proofs.post.Goals as goal
 use Rattle.scheduler.proofs.post.Goals.{Else-code-ne0}
 

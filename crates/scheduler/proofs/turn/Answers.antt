@@ -1,7 +1,5 @@
 -- No slot working, or one that is served.
-use mathlib.Core.Path.{refl, sym, ap, ◌∙◌}
-use mathlib.Core.Option.{none-ne-some}
-use borrow.Author.Rules.{rules}
+use mathlib.Core.Path.{sym, ap, ◌∙◌}
 use Rattle.scheduler.specs.states.Calls.{view_state, service_answer}
 use Rattle.scheduler.proofs.states.Serving.{turn_idle, turn_served}
 use Rattle.scheduler.proofs.turn.Goals as goal

@@ -1,13 +1,8 @@
 -- The path is filled gate by gate. Invariant: its first i places hold the gates of the first i digits.
-use mathlib.Core.Path.{◌≡◌, refl, sym, ap, ◌∙◌}
-use Prim.Native.Nat.{ℕ, ◌≤◌, ◌-◌}
-use native.Mathlib.Omega.{arith}
-use borrow.Author.Rules.{rules}
-use lib.ListN.{length, get_or, take, length-set}
-use lib.Seq.{length-take-le, get_or-take, take_all}
+use mathlib.Core.Path.{◌≡◌}
+use Prim.Native.Nat.{◌≤◌, ◌-◌}
+use lib.ListN.{length, take}
 use Rattle.scheduler.specs.candidates.Left.{chosen}
-use Rattle.scheduler.proofs.candidates.Odometer.{length_chosen, chosen_at}
-use Rattle.scheduler.proofs.candidates.Digits.{filled}
 use Rattle.scheduler.proofs.candidates.gates_at.Given as goal
 
 abbrev pub invariant-loop-i : goal.invariant-loop-i

@@ -1,10 +1,7 @@
-use mathlib.Core.Path.{◌≡◌, refl, sym, ◌∙◌}
-use Prim.Native.Nat.{◌≤◌, ◌-◌}
+use mathlib.Core.Path.{◌≡◌, sym, ◌∙◌}
 use native.Mathlib.Omega.{arith}
-use borrow.Author.Tests.{not-true, not-false}
 use borrow.Author.Rules.{rules}
-use lib.ListN.{length, drop, take}
-use Rattle.scheduler.specs.candidates.Inner.{over}
+use lib.ListN.{length}
 use Rattle.scheduler.proofs.candidates.Digits.{over_end, over_stop, over_step}
 use Rattle.scheduler.proofs.candidates.over.Goals as goal
 use Rattle.scheduler.proofs.candidates.over.Goals.{Start}
@@ -20,8 +17,7 @@ returns-then-not-at_last c =
 
 pub loop-i-preserved : goal.loop-i-preserved
 loop-i-preserved c =
-    let n = long (goal.at.loop-i-preserved c).Start in
-    (
+    let n = long (goal.at.loop-i-preserved c).Start in (
       omega arith,
       sym (over_step c.args.gates c.args.digits c.args.len c.loop-i.i (omega arith) c.at_last.result c.at_last.ensures c.loop-i-test.true c.if-not-at_last.false) ∙ c.loop-i.invariant.1,
     )

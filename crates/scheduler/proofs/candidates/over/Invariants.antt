@@ -1,12 +1,8 @@
 -- The digits are tested one by one. Invariant: those from i on are all at the last gate exactly where those from the first one on are.
-use mathlib.Core.Path.{◌≡◌, refl, sym, ◌∙◌}
+use mathlib.Core.Path.{◌≡◌}
 use Prim.Native.Nat.{◌≤◌, ◌-◌}
-use native.Mathlib.Omega.{arith}
-use borrow.Author.Tests.{not-true, not-false}
-use borrow.Author.Rules.{rules}
-use lib.ListN.{length, drop, take}
+use lib.ListN.{drop, take}
 use Rattle.scheduler.specs.candidates.Inner.{over}
-use Rattle.scheduler.proofs.candidates.Digits.{over_end, over_stop, over_step}
 use Rattle.scheduler.proofs.candidates.over.Given as goal
 
 abbrev pub invariant-loop-i : goal.invariant-loop-i

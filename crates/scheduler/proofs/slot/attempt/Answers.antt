@@ -1,5 +1,4 @@
 use mathlib.Core.Path.{ap, ap₂, ◌∙◌}
-use borrow.Author.Rules.{rules}
 use Rattle.problem.specs.order.Choices as choices
 use Rattle.problem.specs.order.View.{view}
 use Rattle.problem.specs.Problems.{choice_of, good}

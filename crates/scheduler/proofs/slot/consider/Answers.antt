@@ -1,7 +1,6 @@
 -- A list that fails the test leaves the incumbent; one that passes it is offered.
 use mathlib.Core.Path.{◌≡◌, sym, ap, ◌∙◌}
 use native.Mathlib.Omega.{arith}
-use borrow.Author.Tests.{not-true, not-false}
 use borrow.Author.Rules.{rules}
 use lib.ListN.{length, take}
 use lib.Seq.{length-take-le}
@@ -20,11 +19,11 @@ lent s =
 pub returns-then-not-does_for-clause-result_value : goal.returns-then-not-does_for-clause-result_value
 returns-then-not-does_for-clause-result_value c =
     passed_over c.args.job.now (take c.args.len c.args.path) c.args.layout c.measures_of-m.result c.measures_of-m.ensures (view c.args.best)
-          (sym c.does_for.ensures ∙ c.if-not-does_for.true)
+    (sym c.does_for.ensures ∙ c.if-not-does_for.true)
 
 pub returns-clause-result_value : goal.returns-clause-result_value
 returns-clause-result_value c =
     c.offer.ensures.result_value
-          ∙ ap (keep (view c.args.best)) (mine c.args.job.now c.args.path c.args.len c.args.layout c.measures_of-m.result c.measures_of-m.ensures (lent (goal.at.returns-clause-result_value c).Start))
-          ∙ offered c.args.job.now (take c.args.len c.args.path) c.args.layout c.measures_of-m.result c.measures_of-m.ensures (view c.args.best)
-          (sym c.does_for.ensures ∙ c.if-not-does_for.false)
+    ∙ ap (keep (view c.args.best)) (mine c.args.job.now c.args.path c.args.len c.args.layout c.measures_of-m.result c.measures_of-m.ensures (lent (goal.at.returns-clause-result_value c).Start))
+    ∙ offered c.args.job.now (take c.args.len c.args.path) c.args.layout c.measures_of-m.result c.measures_of-m.ensures (view c.args.best)
+    (sym c.does_for.ensures ∙ c.if-not-does_for.false)

@@ -1,4 +1,3 @@
-use borrow.Author.Rules.{rules}
 use Rattle.scheduler.proofs.slot.Trying.{tested}
 use Rattle.scheduler.proofs.slot.does_for.Goals as goal
 

@@ -1,5 +1,4 @@
 use mathlib.Core.Path.{◌∙◌}
-use borrow.Author.Rules.{rules}
 use Rattle.scheduler.proofs.slot.Slots.{empty_test}
 use Rattle.scheduler.proofs.slot.is_empty.Goals as goal
 

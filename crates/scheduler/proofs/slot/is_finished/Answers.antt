@@ -1,4 +1,3 @@
-use borrow.Author.Rules.{rules}
 use Rattle.scheduler.proofs.slot.Slots.{finished_test}
 use Rattle.scheduler.proofs.slot.is_finished.Goals as goal
 

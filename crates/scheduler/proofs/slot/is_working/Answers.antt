@@ -1,4 +1,3 @@
-use borrow.Author.Rules.{rules}
 use Rattle.scheduler.proofs.slot.Slots.{working_test}
 use Rattle.scheduler.proofs.slot.is_working.Goals as goal
 

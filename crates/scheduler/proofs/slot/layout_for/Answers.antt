@@ -1,7 +1,5 @@
-use mathlib.Core.Path.{sym, subst, ◌∙◌}
-use borrow.Author.Rules.{rules}
-use lib.ListN.{get_or}
-use Rattle.table.specs.layouts.Layouts.{Width, layouts_for}
+use mathlib.Core.Path.{sym, subst}
+use Rattle.table.specs.layouts.Layouts.{Width}
 use Rattle.record.proofs.Kept.{sound_job}
 use Rattle.scheduler.proofs.slot.layout_for.Goals as goal
 

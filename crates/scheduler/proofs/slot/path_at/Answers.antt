@@ -1,14 +1,5 @@
 -- The first gates of the table are the job's.
-use mathlib.Core.Path.{ap, ap₂, ◌∙◌}
-use mathlib.Core.List.{List}
-use Prim.Native.Nat.{ℕ, ◌≤◌}
-use native.Mathlib.Omega.{arith}
-use borrow.Author.Rules.{rules}
-use lib.ListN.{take}
-use Rattle.gate.specs.Gates.{gates_for}
-use Rattle.gate.proofs.Tables.{gates_most}
-use Rattle.record.specs.job_fields.Jobs.{wires}
-use Rattle.scheduler.specs.candidates.Left.{chosen, digits_at}
+use Prim.Native.Nat.{◌≤◌}
 use Rattle.scheduler.proofs.slot.Counts.{shape}
 use Rattle.scheduler.proofs.slot.path_at.Goals as goal
 use Rattle.scheduler.proofs.slot.path_at.Goals.{After-wires-wires}

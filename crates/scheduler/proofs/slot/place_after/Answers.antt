@@ -2,7 +2,6 @@
 use mathlib.Core.Path.{◌≡◌, sym, ap₂, subst, ◌∙◌}
 use Prim.Native.Nat.{ℕ}
 use native.Mathlib.Omega.{arith}
-use borrow.Author.Rules.{rules}
 use lib.ListN.{length}
 use Rattle.gate.specs.Gates.{gates_for}
 use Rattle.table.specs.layouts.Layouts.{Width, layouts_for}
@@ -16,12 +15,12 @@ use Rattle.scheduler.proofs.slot.place_after.Goals.{After-gate_count-gates, Afte
 gates_are : (c : After-gate_count-gates)
     → (c.gate_count-gates.result ≡ length (gates_for (most_controls c.args.job.now) (wires c.args.job.now)))
 gates_are c =
-    c.gate_count-gates.ensures ∙ ap₂ (λ (k c.before : ℕ). length (gates_for k c.before)) c.most_controls.ensures c.wires.ensures.value
+    c.gate_count-gates.ensures ∙ ap₂ (λ (k w : ℕ). length (gates_for k w)) c.most_controls.ensures c.wires.ensures.value
 
 layouts-are : (c : After-layout_count-layouts)
     → (c.layout_count-layouts.result ≡ length (layouts_for (data_wires c.args.job.now) (free_layout c.args.job.now)))
 layouts-are c =
-    c.layout_count-layouts.ensures ∙ ap₂ (λ (n c.before : ℕ). length (layouts_for n c.before)) c.data_wires.ensures.value c.free_layout.ensures
+    c.layout_count-layouts.ensures ∙ ap₂ (λ (n f : ℕ). length (layouts_for n f)) c.data_wires.ensures.value c.free_layout.ensures
 
 pub gate_count-gates-requires : goal.gate_count-gates-requires
 gate_count-gates-requires c =

@@ -1,8 +1,3 @@
-use mathlib.Core.Path.{◌≡◌, sym}
-use native.Mathlib.Omega.{arith}
-use borrow.Author.Rules.{rules}
-use lib.ListN.{length}
-use lib.Seq.{length-take-le}
 use Rattle.scheduler.proofs.slot.Slots.{sounded, too_long}
 use Rattle.scheduler.proofs.slot.sound.Goals as goal
 

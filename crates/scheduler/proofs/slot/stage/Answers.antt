@@ -1,4 +1,3 @@
-use borrow.Author.Rules.{rules}
 use Rattle.scheduler.proofs.slot.Slots.{staged, unstaged}
 use Rattle.scheduler.proofs.slot.stage.Goals as goal
 

@@ -1,5 +1,4 @@
 use mathlib.Core.Path.{refl}
-use borrow.Author.Rules.{rules}
 use Rattle.scheduler.proofs.slot.Slots.{none_there}
 use Rattle.scheduler.proofs.slot.vacant.Goals as goal
 

@@ -1,4 +1,3 @@
-use borrow.Author.Rules.{rules}
 use Rattle.scheduler.specs.states.Calls.{view_state}
 use Rattle.scheduler.proofs.states.Rules.{collect_rules}
 use Rattle.scheduler.proofs.states.collect_code.Goals as goal

@@ -1,13 +1,9 @@
 -- The slots are looked at one after the other. Invariant: the first working slot of the `ahead` ones still to come is the first of all
 -- eight.
-use mathlib.Core.Path.{◌≡◌, refl, sym, ap, ◌∙◌}
+use mathlib.Core.Path.{◌≡◌}
 use Prim.Native.Nat.{◌<◌}
-use native.Mathlib.Omega.{arith}
-use borrow.Author.Rules.{rules}
-use Rattle.scheduler.specs.slot.Slots.{is_working}
 use Rattle.scheduler.specs.states.States.{next_working, served_by}
 use Rattle.scheduler.specs.states.Calls.{view_state}
-use Rattle.scheduler.proofs.states.Serving.{next_here, next_on, next_none}
 use Rattle.scheduler.proofs.states.next_working.Given as goal
 
 abbrev pub invariant-loop-ahead : goal.invariant-loop-ahead

@@ -1,5 +1,4 @@
 use mathlib.Core.Path.{ap}
-use borrow.Author.Rules.{rules}
 use lib.ListN.{replicate}
 use Rattle.scheduler.specs.slot.Slots.{Slot}
 use Rattle.scheduler.specs.states.Calls.{view_state}

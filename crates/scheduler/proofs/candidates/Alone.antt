@@ -1,7 +1,7 @@
 -- The first good candidate is the search's answer: the order of trying does not matter, since the order of answers is total.
 use mathlib.Core.Path.{◌≡◌, refl, sym, ◌∙◌}
 use mathlib.Core.Bool.{Bool}
-use mathlib.Core.Logic.{◌⊎◌, ⊎_elim}
+use mathlib.Core.Logic.{⊎_elim}
 use mathlib.Core.List.Memᴰ
 use mathlib.Core.List.{List, [], Memᴰ}
 use mathlib.Core.Option.{Option, none, some}

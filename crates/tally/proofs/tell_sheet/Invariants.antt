@@ -1,4 +1,4 @@
--- The loop tells the 26 lines.
+-- The loop goes through the 26 lines.
 use Rattle.std.proofs.Common.{◌-◌, ◌≤◌}
 use Rattle.tally.proofs.tell_sheet.Given as goal
 

@@ -9,7 +9,7 @@ use Rattle.logic.specs.Rules.{pick}
 use Rattle.logic.specs.Lists.{Among}
 use Rattle.logic.specs.Answers.{Answer, refused, answered}
 use Rattle.logic.proofs.Members.{among_nil, among_cons, among_append}
-use Rattle.circuit.specs.Measure.{cost, depth, greatest, idle}
+use Rattle.circuit.specs.Measure.{greatest, idle}
 use Rattle.table.specs.layouts.Layouts.{layouts_for}
 use Rattle.record.specs.job_fields.Jobs.{data_wires, free_layout, gate_limit}
 use Rattle.problem.specs.order.Choices.{Choice, improve, under}

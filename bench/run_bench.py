@@ -4,7 +4,7 @@
 usage: run_bench.py MAIN_BINARY [--rules base|bounds|full|max] [--sboxes] [--related] [--no-sat] [--direct]
                     [--cap SECONDS] [--repeat N] [--only TEXT] [--target FOLDER]
 
-MAIN_BINARY is the proved program (`target/bin/main`), or `-` for the others alone. plain.rs is
+MAIN_BINARY is the proved program (`crates/main/out/main`), or `-` for the others alone. plain.rs is
 compiled with `rustc -O` into --target (default: a temporary folder). All programs get the
 same job on standard input, one after the other, pinned to one core. Seconds are processor
 time (user and system) of the whole process, the least of --repeat runs; a program that takes

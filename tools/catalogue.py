@@ -237,7 +237,7 @@ class Program:
 
 
 def command_of(job):
-    return "printf '" + "".join(f"\\x{byte:02x}" for byte in job) + "' | target/bin/main"
+    return "printf '" + "".join(f"\\x{byte:02x}" for byte in job) + "' | crates/main/out/main"
 
 
 def printed_for(names):

@@ -1,5 +1,6 @@
 #!/usr/bin/env python3
-"""Tests the documents against the tree and the built programs. Run it in the repository's root after `rt check`:
+"""Tests the documents against the tree and the built programs. Run it in the repository's root, after `rt run` in the folders of main,
+gazbolk, slots and tally, which leaves each program in its crate's out/:
 
     python3 tools/doctest.py
 
@@ -17,7 +18,8 @@ import subprocess
 import sys
 
 RUN = {"README.md": ".", "docs/REFERENCE.md": ".", "docs/API.md": ".", "examples/README.md": "examples"}
-KIT = {"io", "os", "libc", "bytes", "check", "std", "num"}
+PROGRAMS = ["main", "gazbolk", "slots", "tally"]
+KIT = {"io", "check", "std", "core", "libc", "os"}
 faults = []
 
 
@@ -41,7 +43,7 @@ def blocks(text):
 
 def run_commands():
     count = 0
-    path = os.path.abspath("target/bin") + os.pathsep + os.environ["PATH"]
+    path = os.pathsep.join([os.path.abspath(f"crates/{name}/out") for name in PROGRAMS] + [os.environ["PATH"]])
     for name, folder in RUN.items():
         if not os.path.exists(name):
             continue
@@ -73,7 +75,7 @@ def check_links():
                 faults.append(f"{file}: the link [{name}] leads nowhere: {to}")
             elif target.suffix in (".antt", ".rt", ".rs", ".py") and re.fullmatch(r"`?[\w.₀-ₜ′-]+`?", name):
                 word = name.strip("`").split(".")[-1]
-                if word not in target.read_text() and word not in str(target):
+                if not re.search(rf"(?<![\w-]){re.escape(word)}(?![\w-])", target.read_text()) and word not in str(target):
                     faults.append(f"{file}: no {word} in {to}")
     return count
 

@@ -7,8 +7,8 @@ Numbers of crates/solver/src/prospects.rt are changed, none of which a contract 
 of a filter (RADIUS, 2 where it is not given, and one less where at most three gates may come), and after how many gates the wider one takes its
 place (three; so it is also filled for costs that buy more). So the copy is proved like the program itself: `cd FOLDER; rt check main gazbolk`. Then
 
-    bench/compare.py FOLDER/target/bin/main --count 5000
-    bench/compare.py FOLDER/target/bin/gazbolk --libraries
+    bench/compare.py FOLDER/crates/main/out/main --count 5000
+    bench/compare.py FOLDER/crates/gazbolk/out/gazbolk --libraries
 """
 import os
 import shutil

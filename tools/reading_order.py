@@ -48,9 +48,9 @@ PRINTED = [
     ("printed", "verdict", "verify_text"),
 ]
 
-USE = re.compile(r"^(?:ghost )?use Rattle·([\w]+)(?:·specs)?\.specs\.([\w.]+)\.\{([^}]*)\}", re.M)
+USE = re.compile(r"^(?:ghost )?use Rattle\.(\w+)\.specs\.([\w.]+)\.\{([^}]*)\}", re.M)
 DEFINITION = re.compile(r"^(?:(?:abbrev|unfoldable) )?(?:pub )?(?:record |data )?([^\s:(]+)")
-CONTRACT = re.compile(r"^ +(requires|ensures) \{(.*?)⌝ \}$", re.M | re.S)
+CONTRACT = re.compile(r"^    (requires|ensures)(?: \w+)? \{(.*?) \}$(?=\n    (?:requires|ensures)\b|\n?\Z)", re.M | re.S)
 
 
 def read(path):
@@ -59,17 +59,17 @@ def read(path):
 
 
 def words(text):
-    """The names that a text mentions, without those of record fields (`x .field`, `{ field = x; ... }`)."""
-    text = re.sub(r"(?<=[\s)]) ?\.[«\w-]+»?", " ", text)
+    """The names that a text mentions, without those of fields (`x.field`, `{ field = x; ... }`)."""
+    text = re.sub(r"(?<=[\w)»])\.[«\w-]+»?", " ", text)
     text = re.sub(r"([{;]\s*)[\w-]+ =", r"\1", text)
-    return set(re.split(r"[\s(){};,.⌜⌝]+", text))
+    return set(re.split(r"[\s(){};,.]+", text))
 
 
 def uses(text):
-    """The names that a file takes from specs/: name -> (file, name)."""
+    """The names that a file takes from specs/ of this repository: name -> (file, name)."""
     found = {}
     for crate, module, names in USE.findall(text):
-        if module.split(".")[0] != "declared":
+        if module.split(".")[0] != "declared" and os.path.isdir(os.path.join(ROOT, "crates", crate)):
             path = f"crates/{crate}/specs/{module.replace('.', '/')}.antt"
             for name in names.split(","):
                 found[name.strip()] = (path, name.strip())
@@ -125,8 +125,8 @@ class Specs:
 
 
 def spelled(mentioned, known):
-    """The known names among the words; an operator `_means_` is mentioned as `means`."""
-    return [name for name in known if name in mentioned or ("_" in name and name.strip("_") in mentioned)]
+    """The known names among the words; an operator `◌means◌` is mentioned as `means`."""
+    return [name for name in known if name.strip("◌") in mentioned]
 
 
 def contracts(text, function):

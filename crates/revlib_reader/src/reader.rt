@@ -1,6 +1,6 @@
 // The reader that document 01 asks for: a text and a position in it. It is made once for a text; the heading is read through it, and each
 // line of the body by `next`, which gives back the reader behind that line. The functions over it are thin: each takes it apart and calls
-// a function on the slice and the number. They are proved by hand, for no borrow checker covers a struct that holds a reference.
+// a function on the slice and the number.
 ghost use Rattle.std.specs.Prelude.{◌≡◌, ◌≤◌, set};
 ghost use Rattle.revlib_reader.specs.heading.Heading.{HeadingIs};
 ghost use Rattle.revlib_reader.specs.reader.Steps.{fewer, found_at, StepIs, nothing_read, closed, with_line, TextIs};

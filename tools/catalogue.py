@@ -1,9 +1,9 @@
 """Writes a page of facts from what the proved program prints: the cheapest circuits of the S-boxes in 002 and 003.
 
-usage: python3 tools/catalogue.py BIN_FOLDER OUT [--cap SECONDS] [--ancilla-cap SECONDS] [--only NAME]
+usage: python3 tools/catalogue.py CRATES OUT [--cap SECONDS] [--ancilla-cap SECONDS] [--only NAME]
 
-BIN_FOLDER has `main` and `gazbolk` (target/bin), OUT is the page: docs/CATALOGUE.md has the groups `ciphers` and `three`,
-docs/CATALOGUE-003.md `related` and `classes`. Each job is searched with
+CRATES is the folder `crates`, in which `rt run` has built main/out/main and gazbolk/out/gazbolk. OUT is the page: docs/CATALOGUE.md has the
+groups `ciphers` and `three`, docs/CATALOGUE-003.md `related` and `classes`. Each job is searched with
 `gazbolk search`, each circuit found is checked with `gazbolk verify`, and the command that the page gives for a
 row is run as well where the search took at most AGAIN seconds. Anything unexpected ends the script with an error.
 A search of more than --cap processor seconds (default 600), with an ancilla --ancilla-cap (default 240), is ended, and
@@ -137,9 +137,9 @@ the gate passes over. x0 to x3 are the inputs and y0 to y3 the outputs; an ancil
 
 | in a row | theorem | what it says |
 |---|---|---|
-| a circuit | [found-is](../crates/outcomes/proofs/Facts.antt) | what is found realizes the table within the limits, and every other that does comes after it in the order and costs no less |
-| none within {limit} gates | [none-is](../crates/outcomes/proofs/Facts.antt) | 14 is answered exactly when no list with an allowed layout solves the job |
-| none of any length | [odd-none](../crates/outcomes/proofs/Facts.antt), [none-realizes](../crates/parity/proofs/odd_tables/Never.antt) | on four data wires without an ancilla no list of these gates realizes an odd table |
+| a circuit | [found_is](../crates/outcomes/proofs/Facts.antt) | what is found realizes the table within the limits, and every other that does comes after it in the order and costs no less |
+| none within {limit} gates | [none_is](../crates/outcomes/proofs/Facts.antt) | 14 is answered exactly when no list with an allowed layout solves the job |
+| none of any length | [odd_none](../crates/outcomes/proofs/Facts.antt), [none_realizes](../crates/parity/proofs/odd_tables/Never.antt) | on four data wires without an ancilla no list of these gates realizes an odd table |
 
 The words of the theorems are definitions: `Admitted`, `Solves` and `Winner` in [Demand.antt](../crates/problem/specs/Demand.antt), over the problem of
 [Problems.antt](../crates/problem/specs/Problems.antt). Search and verify are tied together in [Verified.antt](../crates/outcomes/proofs/Verified.antt):
@@ -182,13 +182,12 @@ Entry = collections.namedtuple("Entry", "names digits parity rows")
 
 
 class Program:
-    """The proved program in BIN_FOLDER, and a folder for its files."""
+    """The proved programs in the folder of crates, and a folder for their files."""
 
-    def __init__(self, bin_folder, folder):
+    def __init__(self, crates, folder):
         self.folder = folder
-        self.gazbolk = os.path.join(os.path.abspath(bin_folder), "gazbolk")
-        os.mkdir(os.path.join(folder, "target"))
-        os.symlink(os.path.abspath(bin_folder), os.path.join(folder, "target", "bin"))
+        self.gazbolk = os.path.join(os.path.abspath(crates), "gazbolk", "out", "gazbolk")
+        os.symlink(os.path.abspath(crates), os.path.join(folder, "crates"))
 
     def put(self, name, content):
         path = os.path.join(self.folder, name)
@@ -305,9 +304,9 @@ def row_line(number, entry, row, letters):
     answer = row.answer
     head = [str(number)] + [str(row.m)] * has_ancilla(entry) + [LAYOUTS[row.free], price_text(row.prices)]
     if answer.word == "found":
-        tail = [str(answer.gates), str(answer.cost), str(answer.depth), letters[answer.record], "found-is"]
+        tail = [str(answer.gates), str(answer.cost), str(answer.depth), letters[answer.record], "found_is"]
     elif answer.word == "none":
-        text, theorem = ("none of any length", "odd-none") if never(entry, row) else (f"none within {LIMIT} gates", "none-is")
+        text, theorem = ("none of any length", "odd_none") if never(entry, row) else (f"none within {LIMIT} gates", "none_is")
         tail = ["", "", "", text, theorem]
     else:
         tail = ["", "", "", f"not answered within {answer.cap} seconds", ""]
@@ -435,7 +434,7 @@ def page(groups, command):
 def write_pages(program, only, caps, out):
     """Searches for one S-box after the other, and writes the page after each."""
     groups = {}
-    command = " ".join(["python3 tools/catalogue.py target/bin", os.path.join("docs", os.path.basename(out))] + [f"--only {name}" for name in only])
+    command = " ".join(["python3 tools/catalogue.py crates", os.path.join("docs", os.path.basename(out))] + [f"--only {name}" for name in only])
     for group, (_, tables, _) in GROUPS.items():
         for digits, names in jobs.by_table(tables).items():
             if wanted(only, group, names):
@@ -446,7 +445,7 @@ def write_pages(program, only, caps, out):
 
 def main():
     parser = argparse.ArgumentParser(description="Writes a page of facts from what the proved program prints.")
-    parser.add_argument("bin_folder", help="the folder that has main and gazbolk")
+    parser.add_argument("crates", help="the folder of crates, with main and gazbolk built")
     parser.add_argument("out", help="the page")
     parser.add_argument("--cap", type=int, default=600, help="processor seconds for a job without an ancilla")
     parser.add_argument("--ancilla-cap", type=int, default=240, help="processor seconds for a job with one")
@@ -456,7 +455,7 @@ def main():
     if unknown:
         sys.exit(f"no S-box or group of this name: {', '.join(unknown)}")
     with tempfile.TemporaryDirectory() as folder:
-        write_pages(Program(args.bin_folder, folder), args.only, (args.cap, args.ancilla_cap), args.out)
+        write_pages(Program(args.crates, folder), args.only, (args.cap, args.ancilla_cap), args.out)
 
 
 if __name__ == "__main__":

@@ -5,7 +5,8 @@ usage: forced.py FOLDER [RADIUS]
 
 Numbers of crates/solver/src/prospects.rt are changed, none of which a contract holds: how many gates are looked at with no filter (none), the radius
 of a filter (RADIUS, 2 where it is not given, and one less where at most three gates may come), and after how many gates the wider one takes its
-place (three; so it is also filled for costs that buy more). So the copy is proved like the program itself: `cd FOLDER; rt check main gazbolk`. Then
+place (three; so it is also filled for costs that buy more). So the copy is proved like the program itself, by `rt run` in FOLDER/crates/main and
+in FOLDER/crates/gazbolk. Then
 
     bench/compare.py FOLDER/crates/main/out/main --count 5000
     bench/compare.py FOLDER/crates/gazbolk/out/gazbolk --libraries
@@ -29,7 +30,7 @@ def main():
     folder, radius = sys.argv[1], int((sys.argv + ["2"])[2])
     os.makedirs(folder)
     shutil.copy(os.path.join(ROOT, "crates.txt"), folder)
-    shutil.copytree(os.path.join(ROOT, "crates"), os.path.join(folder, "crates"))
+    shutil.copytree(os.path.join(ROOT, "crates"), os.path.join(folder, "crates"), ignore=shutil.ignore_patterns("out"))
     path = os.path.join(folder, "crates", "solver", "src", "prospects.rt")
     with open(path, encoding="utf-8") as file:
         text = file.read()

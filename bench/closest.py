@@ -3,8 +3,8 @@
 
 usage: closest.py PROGRAM [--count N] [--limits 3,4,5] [--seed S]
 
-PROGRAM is crates/gazbolk/out/gazbolk. Draws random four-bit permutations, fixed and free layout in turn, that have no circuit within the gate
-limit, at prices 1,1,5 and durations 1,1,7, and prints for each the misses, both processor times and their ratio. The answers are
+PROGRAM is crates/gazbolk/out/gazbolk. Draws random four-bit permutations, fixed and free layout in turn, that have no circuit within
+the gate limit, at prices 1,1,5 and durations 1,1,7, and prints for each the misses, both processor times and their ratio. The answers are
 compared. Needs rustc.
 """
 import argparse

@@ -9,3 +9,4 @@ pub mod Cells
 pub mod Answers
 pub mod Prefixes
 pub mod Rest
+pub mod Chains

@@ -17,6 +17,7 @@ ghost use Rattle.revlib.specs.Reading.{parse, outcome_of, read_of, size_of, writ
 ghost use Rattle.revlib_reader.specs.Answers.{parsed_answer, parsed_size};
 ghost use Rattle.revlib_reader.specs.Inner.{CircuitIs};
 
+use crate::reader::Text;
 use record::writing;
 use table::layouts;
 
@@ -27,50 +28,31 @@ pub enum Parsed {
     Record(usize),
 }
 
-// What a text says: the code 0 and the data wires, ancillas and gates of a circuit, or a refusal code.
+// What a text says: the data wires, ancillas and gates of a circuit.
 #[derive(Clone, Copy)]
 struct Circuit {
-    code: u8,
     n: usize,
     m: usize,
     count: usize,
     gates: [u8; 12],
 }
 
-// A text that is refused with this code.
-fn broken(code: u8) -> Circuit
-    ensures { result.code ≡ code }
-{
-    Circuit {
-        code,
-        n: 0,
-        m: 0,
-        count: 0,
-        gates: [0u8; 12],
-    }
-}
-
 // Reads a text of at most 4,096 bytes.
-fn parse(text: &[u8]) -> Circuit
+fn parse(text: &[u8]) -> Result<Circuit, u8>
     requires { length text.now ≤ 4096 }
     ensures { CircuitIs (outcome_of (parse text.now)) result }
 {
-    let t = reader::scan(text);
-    if !t.sound {
-        return broken(22);
+    let Text { head, body } = reader::scan(text).ok_or(22)?;
+    if 12 < body.count {
+        return Err(23);
     }
-    if 12 < t.count {
-        return broken(23);
-    }
-    let head = t.head;
-    let gates = t.gates;
-    Circuit {
-        code: 0,
+    let gates = body.gates;
+    Ok(Circuit {
         n: head.wires - head.ancillas,
         m: head.ancillas,
-        count: t.count,
+        count: body.count,
         gates,
-    }
+    })
 }
 
 // Reads a `.real` text into a circuit record with plain layout, written from byte 0 of `answer`.
@@ -85,11 +67,11 @@ pub fn read(text: &[u8], answer: &mut [u8]) -> Parsed
     if 4096 < text.len() {
         return Parsed::Refused(22);
     }
-    let c = parse(text);
-    if c.code != 0 {
-        return Parsed::Refused(c.code);
+    match parse(text) {
+        Err(code) => Parsed::Refused(code),
+        Ok(c) => {
+            let (plain, gates) = (layouts::plain(c.n), c.gates);
+            Parsed::Record(writing::write_record(c.n, c.m, false, plain, gates, c.count, answer))
+        }
     }
-    let gates = c.gates;
-    let size = writing::write_record(c.n, c.m, false, layouts::plain(c.n), gates, c.count, answer);
-    Parsed::Record(size)
 }

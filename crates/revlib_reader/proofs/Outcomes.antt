@@ -1,5 +1,5 @@
 -- From heading and body to the answer of the call.
-use Rattle.std.proofs.Common.{◌≡◌, refl, sym, ap, subst, ◌∙◌, true, false, List, ◌++◌, ℕ, ◌-◌, ◌≤◌, ◌<◌, length, take, drop, arith}
+use Rattle.std.proofs.Common.{◌≡◌, ◌∙◌, false, List, ◌++◌, ℕ, ◌-◌, ◌≤◌, ◌<◌, length, take, drop, arith}
 use Rattle.std.proofs.Math.Option as maths
 use borrow.Author.Tests.{le-leb, lt-leb}
 use Rattle.logic.specs.Answers.{Answer, refused, answered}
@@ -45,7 +45,10 @@ module _ (text : List ℕ) where
       pub taken : b.count ≤ 12 → length (letters_of h) ≡ h.wires
           → outcome_of (parse text) ≡ answered (circuit_bytes (h.wires - h.ancillas) h.ancillas false (plain (h.wires - h.ancillas)) (take b.count b.gates))
       unfolding record_of data_count
-      taken m w = let n = lines.counted in rw (parsed, lines.are, le-leb (length lines.read) 12 (omega arith), lines.kept m, is.spare, ← w, is.names)
+      taken m w =
+          let n = lines.counted in
+          let k : data_count (names_at text) (constants_in text) ≡ h.wires - h.ancillas = rw (is.spare, ← w, is.names) in
+          rw (parsed, lines.are, le-leb (length lines.read) 12 (omega arith), lines.kept m, ← is.names, ← is.spare, w)
 
 -- a record that is answered is written, and its length returned
 module _ {o : Answer (List ℕ)} {bytes : List ℕ} (found : o ≡ answered bytes) (k : ℕ) (sized : k ≡ length bytes) where

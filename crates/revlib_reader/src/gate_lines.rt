@@ -12,7 +12,7 @@ pub enum Line {
 }
 
 // The gate line at the start of a text, if one stands there.
-#[tactic(auto, using(crate::proofs::gate_lines::Lines::unannounced), unfolding(crate::specs::gate_lines::Tokens::gate_of, revlib::specs::Reading::line_at, revlib::specs::Reading::line_here))]
+#[tactic(auto, using(crate::proofs::Lines::unannounced), unfolding(revlib::specs::Reading::line_at, revlib::specs::Reading::line_here))]
 fn gate_line(s: &[u8], letters: &[u8]) -> Option<Line>
     requires { length letters.now ≤ 5 }
     ensures { result ≡ gate_of letters.now s.now }

@@ -11,7 +11,7 @@ pub fn is_in(x: u8, list: &[u8]) -> bool
 }
 
 // Whether no letter stands twice.
-#[tactic(auto, using(crate::proofs::gate_words::Letters::different_turn, crate::proofs::gate_words::Letters::different_done, logic::proofs::Rest::part))]
+#[tactic(auto, using(crate::proofs::gate_words::Letters::different_done))]
 pub fn different(list: &[u8]) -> bool
     ensures { result ≡ different list.now }
 {

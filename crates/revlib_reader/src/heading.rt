@@ -95,7 +95,7 @@ impl Constants {
     }
 
     // Whether a text begins with what follows the letters of `n` data wires: this line, then `.begin`.
-    #[tactic(auto, using(crate::proofs::heading::Headings::closing_unsaid, crate::proofs::heading::Headings::closing_data, crate::proofs::heading::Headings::closing_ancilla))]
+    #[tactic(auto, using(crate::proofs::heading::Headings::closings))]
     fn here(self, s: &[u8], n: usize) -> bool
         requires { Width n }
         ensures { result ≡ starts (closing (n + ancilla_count (said_by self)) (said_by self)) s.now }

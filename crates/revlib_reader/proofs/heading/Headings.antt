@@ -1,5 +1,5 @@
 -- A heading as the sequence of its parts.
-use Rattle.std.proofs.Common.{◌≡◌, refl, sym, ap, ap₂, ◌∙◌, Bool, true, false, inl, inr, ⊎_elim, List, [], ◌∷◌, ◌++◌, append_assoc, ℕ, zero, suc, ◌+◌, ◌-◌, ◌*◌, ◌≤◌, min, eqb, get_or, take, drop, length, length-append, length-take, replicate, arith}
+use Rattle.std.proofs.Common.{◌≡◌, refl, sym, ap, ap₂, ◌∙◌, Bool, true, false, inl, inr, ⊎_elim, List, [], ◌∷◌, ◌++◌, append_assoc, ℕ, zero, suc, ◌+◌, ◌-◌, ◌*◌, ◌≤◌, min, eqb, get_or, take, drop, length, length-append, length-take, arith}
 use lib.ListN.{length-replicate, take-append-drop}
 use lib.Seq.{drop-drop, take-append_seam}
 use borrow.Author.Tests.{eqb-true}
@@ -70,6 +70,8 @@ closing_data n = simp append_assoc
 pub closing_ancilla : (n : ℕ) → closing (n + 1) one_ancilla ≡ dashed n (bytes "0\n.begin\n")
 unfolding closing constants_line constants_word dashes dashed
 closing_ancilla n = let m : n + 1 - 1 ≡ n = omega arith in simp (append_assoc, m)
+
+pub ruleset closings = (closing_unsaid, closing_data, closing_ancilla)
 
 -- the rules of a heading depend on the number of data wires and the letters
 rules : (ls : List ℕ) (c : Constants) → names_ok ls (length ls - ancilla_count c) ≡ heading_ok ls c

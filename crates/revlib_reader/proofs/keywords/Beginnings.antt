@@ -1,5 +1,5 @@
 -- How a text begins: by the library's `starts_with`, and by one word after another.
-use Rattle.std.proofs.Common.{◌≡◌, refl, sym, ap, ◌∙◌, Bool, true, false, ◌&&◌, List, [], ◌∷◌, ◌++◌, ℕ, suc, ◌+◌, ◌<◌, ◌≤◌, length, get_or, take, drop, eqb, nat_eq, arith}
+use Rattle.std.proofs.Common.{◌≡◌, refl, sym, ap, ◌∙◌, Bool, true, false, ◌&&◌, List, [], ◌∷◌, ◌++◌, ℕ, suc, ◌+◌, ◌<◌, ◌≤◌, length, get_or, drop, eqb, nat_eq, arith}
 use Rattle.std.specs.List.{starts_with}
 use lib.Seq.{drop-cons}
 use lib.ListN.{drop_of_length-le}

@@ -1,5 +1,5 @@
 -- The gate lines read so far, and what the next line adds.
-use Rattle.std.proofs.Common.{◌≡◌, refl, sym, ap, ◌∙◌, Bool, true, false, List, [], ◌∷◌, ◌++◌, map, append-nil, append_assoc, ℕ, suc, ◌+◌, ◌-◌, ◌*◌, ◌≤◌, ◌<◌, length, length-append, length-take, length-drop, length-set, get_or, take, drop, set, replicate, ltb, Option, Some, None, arith}
+use Rattle.std.proofs.Common.{◌≡◌, refl, sym, ap, ◌∙◌, Bool, true, false, List, [], ◌∷◌, ◌++◌, map, append-nil, append_assoc, ℕ, suc, ◌+◌, ◌*◌, ◌≤◌, ◌<◌, length, length-append, length-take, length-drop, length-set, get_or, take, drop, set, replicate, ltb, Option, Some, None, arith}
 use Rattle.std.proofs.lemmas.List.{map-append}
 use Rattle.std.proofs.Math.Option as maths
 use mathlib.Core.Bool.{false≢true}
@@ -15,7 +15,7 @@ use Rattle.revlib.proofs.Exact.{skipped}
 use Rattle.revlib_reader.specs.declared.gate_lines.Line.{Line}
 use Rattle.revlib_reader.specs.declared.reader.Body.{Body}
 use Rattle.revlib_reader.specs.gate_lines.Tokens.{gate_of, line_of}
-use Rattle.revlib_reader.specs.reader.Steps.{line_in, behind, LinesAre, BodyIs}
+use Rattle.revlib_reader.specs.reader.Steps.{line_in, LinesAre}
 
 outside : (t u : Bool) → both t u ≡ false → (t ≡ true → u ≡ false)
 outside true u h e = h

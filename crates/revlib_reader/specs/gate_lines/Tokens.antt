@@ -6,7 +6,7 @@ use Rattle.revlib.specs.Reading.{line_at, line_here, end_here}
 use Rattle.revlib_reader.specs.declared.gate_lines.Line.{Line}
 
 -- a gate line, with the declared letters ls
-unfoldable pub gate_of : List ℕ → List ℕ → Option Line
+abbrev pub gate_of : List ℕ → List ℕ → Option Line
 gate_of ls s = pick (line_here ls s) (Some (Line.Gate (gate_byte ls (line_at s)) (3 + 2 * length (line_at s)))) None
 
 -- any line

@@ -1,4 +1,4 @@
-use Rattle.std.proofs.Common.{◌≡◌, true, false, ◌+◌, sym, ◌∙◌}
+use Rattle.std.proofs.Common.{true, false, ◌+◌, sym, ◌∙◌}
 use native.Mathlib.Omega.{arith}
 use Rattle.logic.proofs.Rest.{part}
 use Rattle.revlib_reader.proofs.gate_words.Letters.{different_turn}

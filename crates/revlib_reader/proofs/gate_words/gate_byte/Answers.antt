@@ -1,4 +1,4 @@
-use Rattle.std.proofs.Common.{◌*◌, ◌+◌, ◌≡◌, ◌-◌, length, arith}
+use Rattle.std.proofs.Common.{◌-◌, length, arith}
 use Rattle.revlib_reader.proofs.gate_words.Letters.{byte_of}
 use Rattle.revlib_reader.proofs.gate_words.gate_byte.Goals as goal
 

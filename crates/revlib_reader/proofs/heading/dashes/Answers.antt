@@ -1,4 +1,3 @@
-use Rattle.std.proofs.Common.{rules, arith}
 use Rattle.revlib_reader.proofs.heading.Headings.{few_dashes}
 use Rattle.revlib_reader.proofs.heading.dashes.Goals as goal
 

@@ -1,9 +1,7 @@
 -- The heading is read, then the body behind it.
-use Rattle.std.proofs.Common.{◌≡◌, sym, ap, subst, ◌∙◌, List, ℕ, ◌≤◌, length, drop, Option, None, Bor}
-use Rattle.std.proofs.Math.Option as maths
-use Rattle.revlib.specs.Reading.{lines_at, heading_here}
-use Rattle.revlib_reader.specs.declared.reader.Text.{Text}
-use Rattle.revlib_reader.specs.reader.Steps.{TextIs, letters_of}
+use Rattle.std.proofs.Common.{◌≡◌, sym, ap, subst, ◌∙◌, List, ℕ, Bor}
+use Rattle.revlib.specs.Reading.{heading_here}
+use Rattle.revlib_reader.specs.reader.Steps.{TextIs}
 use Rattle.revlib_reader.proofs.Outcomes.{no_heading, no_body}
 use Rattle.revlib_reader.proofs.reader.scan.Goals as goal
 
@@ -13,8 +11,8 @@ returns-in_err-head c =
     subst (TextIs c.args.text.now) (sym c.from_residual.ensures) (λ m. no_heading c.args.text.now none)
 
 pub returns-in_err-body : goal.returns-in_err-body
-returns-in_err-body c = 
+returns-in_err-body c =
     let src = c.in_ok-head.ensures.src ∙ c.new-reader.ensures.0 in
     let is = rw c.new-reader.ensures.0 at c.in_ok-head.ensures.heading in
     subst (TextIs c.args.text.now) (sym c.from_residual-in_err-body.ensures)
-    (λ m. no_body c.args.text.now c.in_ok-head.head is (rw (src, c.in_ok-head.ensures.at, c.letters.ensures.value) at c.in_err-body.ensures (rw src m)))
+    (λ m. no_body c.args.text.now c.in_ok-head.head is (rw (src, c.in_ok-head.ensures.at, c.letters.ensures.value) at c.in_err-body.ensures m))

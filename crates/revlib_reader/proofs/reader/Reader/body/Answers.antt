@@ -1,9 +1,9 @@
 -- A turn reads one line more, at the reader's position in the text that was passed.
-use Rattle.std.proofs.Common.{◌≡◌, sym, ap, subst, ◌∙◌, List, ℕ, ◌+◌, ◌≤◌, length, Option, Some, None, Bor, arith}
+use Rattle.std.proofs.Common.{◌≡◌, sym, ap, subst, ◌∙◌, List, ℕ, ◌≤◌, length, Option, Some, Bor, arith}
 use Rattle.revlib_reader.specs.declared.gate_lines.Line.{Line}
 use Rattle.revlib_reader.specs.declared.reader.Body.{Body}
 use Rattle.revlib_reader.specs.reader.Steps.{line_in, behind, BodyIs}
-use Rattle.revlib_reader.proofs.reader.Bodies.{Reached, reached_first, reached_more, reached_end, reached_none, moves}
+use Rattle.revlib_reader.proofs.reader.Bodies.{reached_more, reached_end, reached_none, moves}
 use Rattle.revlib_reader.proofs.reader.Reader.body.Goals as goal
 use Rattle.revlib_reader.proofs.reader.Reader.body.Goals.{In-Gate}
 
@@ -52,5 +52,5 @@ loop-byte-preserved c =
 pub returns : goal.returns
 returns c = λ m.
     let is = line_is c.args.letters.now c.args.self.now.src c.loop-byte.self.src c.loop-byte.self.at c.loop-byte.invariant.over _ c.next.ensures.line _
-        (c.in_ok-byte.was ∙ ap Some c.in_default.is) in
+    (c.in_ok-byte.was ∙ ap Some c.in_default.is) in
     reached_end c.args.letters.now c.args.self.now.src.now c.args.self.now.at c.loop-byte.self.at c.loop-byte.body c.loop-byte.invariant.reached is

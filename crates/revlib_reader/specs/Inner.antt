@@ -11,4 +11,5 @@ use Rattle.revlib_reader.specs.declared.Circuit.{Circuit}
 abbrev pub CircuitIs : Answer (List ℕ) → Result Circuit Refusal → Type 0
 CircuitIs outcome (Err r) = outcome ≡ refused (number r)
 CircuitIs outcome (Ok c) =
-    ((c.n < 8) × (c.m < 4)) × ((c.count ≤ 12) × (outcome ≡ answered (circuit_bytes c.n c.m false (plain c.n) (take c.count c.gates))))
+    ((c.n < 8) × (c.m < 4))
+    × ((c.count ≤ 12) × (outcome ≡ answered (circuit_bytes c.n c.m false (plain c.n) (take c.count c.gates))))

@@ -2,7 +2,8 @@
 use Rattle.std.specs.Prelude.{Bool, List, [], ◌∷◌, ◌++◌, ℕ, ◌+◌, ◌*◌, eqb, get_or, replicate}
 use Rattle.logic.specs.Rules.{both, either}
 use Rattle.logic.specs.Lists.{all_of}
-use Rattle.revlib.specs.Grammar.{Constants, unsaid, all_data, one_ancilla, numvars_line, constants_line, heading, different, lower_case, heading_ok}
+use Rattle.revlib.specs.Grammar.{Constants, unsaid, all_data, one_ancilla}
+use Rattle.revlib.specs.Grammar.{numvars_line, constants_line, heading, different, lower_case, heading_ok}
 use Rattle.logic.specs.Words.{bytes}
 use Rattle.revlib.specs.Reading.{starts}
 use Rattle.revlib_reader.specs.declared.heading.Constants as read

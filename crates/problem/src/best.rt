@@ -1,22 +1,15 @@
 // The incumbent, and what becomes of it when a circuit is offered: the one of the two that comes first.
-ghost use Rattle.std.specs.Prelude.{◌≡◌, take};
+ghost use Rattle.std.specs.Prelude.{◌≡◌};
 ghost use Rattle.problem.specs.order.Choices.{before, keep};
 ghost use Rattle.problem.specs.order.View.{choice, view};
 
 use crate::order::Best;
 
-// The gates of a circuit.
-pub fn gates(best: &Best) -> &[u8]
-    ensures { result.now ≡ take best.now.len best.now.path }
-{
-    &best.path[..best.len]
-}
-
 // Whether circuit `a` comes before circuit `b`: by cost, then gates, depth, layout and gate bytes.
 fn comes_first(a: &Best, b: &Best) -> bool
     ensures { result ≡ before (choice a.now) (choice b.now) }
 {
-    (a.cost, a.len, a.depth, a.layout, gates(a)) < (b.cost, b.len, b.depth, b.layout, gates(b))
+    (a.cost, a.len, a.depth, a.layout, a.gates()) < (b.cost, b.len, b.depth, b.layout, b.gates())
 }
 
 // The incumbent after a circuit was offered: the one of the two that comes first.

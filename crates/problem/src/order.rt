@@ -1,5 +1,5 @@
 // A circuit that the search has found, and which of two comes first.
-ghost use Rattle.std.specs.Prelude.{◌≡◌, ◌≤◌};
+ghost use Rattle.std.specs.Prelude.{◌≡◌, ◌≤◌, take};
 
 // A gate list with its layout and measures: the first `len` bytes of `path` are its gates.
 #[derive(Clone, Copy)]
@@ -10,4 +10,13 @@ pub struct Best {
     pub len: usize,
     pub path: [u8; 12],
     pub ghost short: { len ≤ 12 },
+}
+
+impl Best {
+    // The gates, first to last.
+    pub fn gates(&self) -> &[u8]
+        ensures { result.now ≡ take self.now.len self.now.path }
+    {
+        &self.path[..self.len]
+    }
 }

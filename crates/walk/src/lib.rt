@@ -26,8 +26,8 @@ use bloom::targets;
 use columns::table_columns;
 use normal_forms::masks;
 use outputs::{plan, product_table};
+use problem::Entry;
 use problem::order::Best;
-use problem::{Entry, best};
 
 // The incumbent once a subtree was walked: the first of `best` and the good choices of all lists in it, but for lists that go on by a
 // needless gate.
@@ -35,18 +35,17 @@ fn dfs(
     entries: &[Entry],
     setup: Setup,
     tree: Subtree,
-    best: Best,
+    best: Option<Best>,
     bits: &[u64],
     sums: &[u8],
-) -> Best
+) -> Option<Best>
     requires supplied { Supplied entries.now setup.task bits.now setup.reach }
     requires fair { Fair setup.task × (setup.least.extra ≤ 255) }
-    requires remaining_bound { (tree.node.len + tree.remaining ≤ 12) × (best.len ≤ 12) }
+    requires remaining_bound { tree.node.len + tree.remaining ≤ 12 }
     requires small { Small tree.node }
-    ensures result_value { (P : Problem) → Given P setup entries.now → At P tree.node
+    ensures { (P : Problem) → Given P setup entries.now → At P tree.node
         → Exact P setup.task.cost_limit (list_of tree.node) tree.remaining sums.now
         → view result ≡ tried_under needless P setup.task.cost_limit (list_of tree.node) tree.remaining (view best) }
-    ensures len_bound { result.len ≤ 12 }
 {
     let s = tree.node;
     let remaining = tree.remaining;
@@ -111,17 +110,16 @@ pub fn root(needs: usize) -> Node
 
 // One walk from the empty list: the first of the lists that cost at most the task's limit and have at most `most` gates. Sums are given
 // only where every good list has exactly so many gates and costs exactly so much.
-pub fn run(entries: &[Entry], setup: Setup, most: usize, bits: &[u64], sums: &[u8]) -> Best
+pub fn run(entries: &[Entry], setup: Setup, most: usize, bits: &[u64], sums: &[u8]) -> Option<Best>
     requires supplied { Supplied entries.now setup.task bits.now setup.reach }
     requires ready { Ready setup.task setup.least × (most ≤ 12) }
-    ensures result_value { (P : Problem) → Given P setup entries.now
+    ensures { (P : Problem) → Given P setup entries.now
         → Exact P setup.task.cost_limit [] most sums.now
         → view result ≡ looked_under P setup.task.cost_limit [] most none }
-    ensures len_bound { result.len ≤ 12 }
 {
     let tree = Subtree {
         node: root(setup.least.needs),
         remaining: most,
     };
-    dfs(entries, setup, tree, best::nothing(), bits, sums)
+    dfs(entries, setup, tree, None, bits, sums)
 }

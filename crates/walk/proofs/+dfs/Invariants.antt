@@ -10,8 +10,8 @@ use Rattle.walk.specs.node.States.{list_of, needless, Given, At, Exact}
 use Rattle.walk.proofs.+dfs.Given as goal
 
 abbrev pub invariant-loop-entry : goal.invariant-loop-entry
-invariant-loop-entry l = (1 ≤ l.most) × ((l.b.len ≤ 12) × ((P : Problem) → Given P l.setup l.entries → At P l.s
-    → Exact P l.task.cost_limit (list_of l.s) l.remaining l.sums → view l.b ≡ improve (within P l.task.cost_limit) (view l.initial.b) (branches needless (here P) P.gates (list_of l.s) (l.remaining - 1) l.entry-index)))
+invariant-loop-entry l = (1 ≤ l.most) × ((P : Problem) → Given P l.setup l.entries → At P l.s
+    → Exact P l.task.cost_limit (list_of l.s) l.remaining l.sums → view l.b ≡ improve (within P l.task.cost_limit) (view l.initial.b) (branches needless (here P) P.gates (list_of l.s) (l.remaining - 1) l.entry-index))
 
 abbrev pub decreases-dfs : goal.decreases-dfs
 decreases-dfs l = l.tree.remaining

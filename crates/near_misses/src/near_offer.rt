@@ -60,12 +60,9 @@ fn consider(task: Task, s: Node, k: usize, best: Best) -> Best
 {
     let count = layouts::layout_count(task.outputs, task.free);
     let mut b = best;
-    let mut i = 0;
-    while i < count {
+    for i in 0..count {
         let p = layouts::layout_at(task.outputs, task.free, i);
-        let next = try_layout(task, s, k, p, b);
-        b = next;
-        i += 1;
+        b = try_layout(task, s, k, p, b);
     }
     b
 }

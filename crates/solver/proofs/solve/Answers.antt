@@ -4,6 +4,7 @@ use mathlib.Core.List.{[]}
 use Prim.Native.Nat.{ℕ, ◌+◌, ◌-◌}
 use native.Mathlib.Omega.{arith}
 use borrow.Author.Tests.{not-false}
+use Rattle.problem.specs.Entries.{entry_gates}
 use Rattle.problem.specs.Problems.{Problem}
 use Rattle.problem.proofs.Limits.{past_none}
 use Rattle.reach_filter.proofs.fill.Sieves.{no_sieve}
@@ -21,13 +22,13 @@ module _ (k : After-fewest-held) where
   abbrev most : ℕ
   most = k.early-most.result
 
-  fits : Supplied k.args.gates.now k.args.prices.now k.args.durations.now k.args.task [] k.no_filter-reach.result
+  fits : Supplied k.args.entries.now k.args.task [] k.no_filter-reach.result
   fits =
-      supplied k.args.gates.now k.args.prices.now k.args.durations.now k.args.task [] k.no_filter-reach.result k.requires.slices (no_sieve k.args.gates.now k.no_filter-reach.result k.args.task.controls k.args.task.wanted k.args.task.outputs k.args.task.free)
+      supplied k.args.entries.now k.args.task [] k.no_filter-reach.result k.requires.known (no_sieve (entry_gates k.args.entries.now) k.no_filter-reach.result k.args.task.controls k.args.task.wanted k.args.task.outputs k.args.task.free)
 
-  module _ (P : Problem) (posed : Posed P k.args.task k.args.gates.now k.args.prices.now k.args.durations.now) (limited : Limited P k.args.task) where
+  module _ (P : Problem) (posed : Posed P k.args.task k.args.entries.now) (limited : Limited P k.args.task) where
     bounded : Bounded P k.least_of-least.result
-    bounded = k.least_of-least.ensures.bounded P k.args.durations.now k.requires.slices.priced_all posed
+    bounded = k.least_of-least.ensures.bounded P posed
 
     deepened : Deepened P P.most_cost most k.fewest-held.result
     deepened =
@@ -36,12 +37,12 @@ module _ (k : After-fewest-held) where
         (k.fewest-held.ensures.deepened P record { posed = posed; bounded = bounded } (omega (arith, limited.cost_most)) (omega (arith, limited.gates_most)) (past_none P k.args.task.cost_limit) (no_sums P k.args.task.cost_limit))
 
 -- the search with a filter goes on one gate further
-further : (k : After-fewest-held) (P : Problem) → Posed P k.args.task k.args.gates.now k.args.prices.now k.args.durations.now
+further : (k : After-fewest-held) (P : Problem) → Posed P k.args.task k.args.entries.now
     → Limited P k.args.task → Deepened P P.most_cost (most k + 1 - 1) k.fewest-held.result
 further k P posed limited = subst (λ (l : ℕ). Deepened P P.most_cost l k.fewest-held.result) (omega arith) (deepened k P posed limited)
 
 pub fewest-held-requires-clause-supplied : goal.fewest-held-requires-clause-supplied
-fewest-held-requires-clause-supplied c = let e = c.early-most.ensures in supplied c.args.gates.now c.args.prices.now c.args.durations.now c.args.task [] c.no_filter-reach.result c.requires.slices (no_sieve c.args.gates.now c.no_filter-reach.result c.args.task.controls c.args.task.wanted c.args.task.outputs c.args.task.free)
+fewest-held-requires-clause-supplied c = let e = c.early-most.ensures in supplied c.args.entries.now c.args.task [] c.no_filter-reach.result c.requires.known (no_sieve (entry_gates c.args.entries.now) c.no_filter-reach.result c.args.task.controls c.args.task.wanted c.args.task.outputs c.args.task.free)
 
 pub settle-requires-clause-supplied : goal.settle-requires-clause-supplied
 settle-requires-clause-supplied c = fits (goal.at.settle-requires-clause-supplied c).After-fewest-held

@@ -9,19 +9,18 @@ ghost use Rattle.near_misses.specs.near_offer.Loose.{loosened};
 use crate::near_offer;
 use outputs::product_table;
 use problem::order::Best;
-use problem::{Entry, best};
+use problem::Entry;
 use walk::advance;
 use walk::node::{Least, Node, Task};
 
 // The incumbent once every list was looked at that begins with the node's and goes on by at most `remaining` gates, none of them needless.
-fn dfs(entries: &[Entry], task: Task, s: Node, remaining: usize, k: usize, best: Best) -> Best
+fn dfs(entries: &[Entry], task: Task, s: Node, remaining: usize, k: usize, best: Option<Best>) -> Option<Best>
     requires known { OnWires entries.now }
     requires fair { Fair task }
-    requires remaining_bound { (s.len + remaining ≤ 12) × (best.len ≤ 12) }
+    requires remaining_bound { s.len + remaining ≤ 12 }
     requires small { Small s }
-    ensures result_value { (P : Problem) → Posed P task entries.now → At P s
+    ensures { (P : Problem) → Posed P task entries.now → At P s
         → view result ≡ tried_under needless (loosened task k P) task.cost_limit (list_of s) remaining (view best) }
-    ensures len_bound { result.len ≤ 12 }
 {
     let mut b = near_offer::consider_near(task, s, k, best);
     if remaining == 0 {
@@ -45,13 +44,12 @@ fn dfs(entries: &[Entry], task: Task, s: Node, remaining: usize, k: usize, best:
 }
 
 // The first good choice among those that miss at most `k` wanted bits.
-pub fn run(entries: &[Entry], task: Task, k: usize) -> Best
+pub fn run(entries: &[Entry], task: Task, k: usize) -> Option<Best>
     requires known { OnWires entries.now }
     requires fair { Fair task × (task.gate_limit ≤ 12) }
-    ensures result_value { (P : Problem) → Posed P task entries.now → Limited P task
+    ensures { (P : Problem) → Posed P task entries.now → Limited P task
         → view result ≡ first_good (loosened task k P) }
-    ensures len_bound { result.len ≤ 12 }
 {
     let most = task.gate_limit;
-    dfs(entries, task, walk::root(0), most, k, best::nothing())
+    dfs(entries, task, walk::root(0), most, k, None)
 }

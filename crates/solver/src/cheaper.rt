@@ -1,6 +1,6 @@
 // The search below the incumbent's cost: whether a list of more gates costs less. It begins with the filter at hand, and goes on with a
 // wider one at the costs where that is worth the time to fill it.
-ghost use Rattle.std.specs.Prelude.{◌≡◌, true, ◌-◌, ◌≤◌, ◌<◌};
+ghost use Rattle.std.specs.Prelude.{◌≡◌, ◌-◌, ◌≤◌, ◌<◌, Some};
 ghost use Rattle.circuit.specs.Measure.{cost};
 ghost use Rattle.problem.specs.order.View.{view};
 ghost use Rattle.problem.specs.Problems.{Problem, first_good};
@@ -26,14 +26,13 @@ fn between_with_sums(
     costs: Costs,
     bits: &[u64],
     sums: &mut [u8],
-) -> Best
+) -> Option<Best>
     requires supplied { Supplied entries.now setup.task bits.now setup.reach }
     requires ready { Ready setup.task setup.least × (setup.task.gate_limit ≤ 12) }
-    requires found_value { (held.found ≡ true) × ((costs.from ≤ costs.to) × (costs.to ≤ held.cost)) }
-    ensures cheapened { (P : Problem) → Given P setup entries.now
-        → Limited P setup.task → Shortest P P.most_cost (view held) held.len → Dearer P costs.from
+    requires costs_rise { (costs.from ≤ costs.to) × (costs.to ≤ held.cost) }
+    ensures { (P : Problem) → Given P setup entries.now
+        → Limited P setup.task → Shortest P P.most_cost (view (Some held)) held.len → Dearer P costs.from
         → Cheapened P costs.to result }
-    ensures len_bound { result.len ≤ 12 }
 {
     sums::mark(entries, setup.task.gate_limit, sums);
     deepening::cheaper(entries, setup, held, costs, bits, sums)
@@ -57,24 +56,16 @@ fn between_with_room(
     costs: Costs,
     bits: &[u64],
     sums: &mut [u8],
-) -> Best
+) -> Option<Best>
     requires supplied { Supplied entries.now setup.task bits.now setup.reach }
     requires ready { Ready setup.task setup.least × (setup.task.gate_limit ≤ 12) }
-    requires found_value { (held.found ≡ true) × ((costs.from ≤ costs.to) × (costs.to ≤ held.cost)) }
-    ensures cheapened { (P : Problem) → Given P setup entries.now
-        → Limited P setup.task → Shortest P P.most_cost (view held) held.len → Dearer P costs.from
+    requires costs_rise { (costs.from ≤ costs.to) × (costs.to ≤ held.cost) }
+    ensures { (P : Problem) → Given P setup entries.now
+        → Limited P setup.task → Shortest P P.most_cost (view (Some held)) held.len → Dearer P costs.from
         → Cheapened P costs.to result }
-    ensures len_bound { result.len ≤ 12 }
 {
     let room = room_for(costs.to, sums.len());
-    between_with_sums(
-        entries,
-        setup,
-        held,
-        costs,
-        bits,
-        &mut sums[..room],
-    )
+    between_with_sums(entries, setup, held, costs, bits, &mut sums[..room])
 }
 
 // The first good choice, where its cost is one of `costs`; else nothing is found. The incumbent has the fewest gates, costs at least `to`,
@@ -85,73 +76,51 @@ fn costs_between(
     held: Best,
     costs: Costs,
     bits: &[u64],
-) -> Best
+) -> Option<Best>
     requires supplied { Supplied entries.now setup.task bits.now setup.reach }
     requires ready { Ready setup.task setup.least × (setup.task.gate_limit ≤ 12) }
-    requires found_value { (held.found ≡ true) × ((costs.from ≤ costs.to) × (costs.to ≤ held.cost)) }
-    ensures cheapened { (P : Problem) → Given P setup entries.now
-        → Limited P setup.task → Shortest P P.most_cost (view held) held.len → Dearer P costs.from
+    requires costs_rise { (costs.from ≤ costs.to) × (costs.to ≤ held.cost) }
+    ensures { (P : Problem) → Given P setup entries.now
+        → Limited P setup.task → Shortest P P.most_cost (view (Some held)) held.len → Dearer P costs.from
         → Cheapened P costs.to result }
-    ensures len_bound { result.len ≤ 12 }
 {
     // a place for each cost up to 3060 with each count of gates up to 12
     let mut sums = [0u8; 39793];
-    between_with_room(
-        entries, setup, held, costs, bits, &mut sums,
-    )
+    between_with_room(entries, setup, held, costs, bits, &mut sums)
 }
 
 // The first good choice, where the incumbent has the fewest gates and nothing good costs less than `from`: one that costs less than the
 // incumbent, or the incumbent.
-pub fn cheapest_from(
-    entries: &[Entry],
-    setup: Setup,
-    held: Best,
-    from: usize,
-    bits: &[u64],
-) -> Best
+pub fn cheapest_from(entries: &[Entry], setup: Setup, held: Best, from: usize, bits: &[u64]) -> Best
     requires supplied { Supplied entries.now setup.task bits.now setup.reach }
     requires ready { Ready setup.task setup.least × (setup.task.gate_limit ≤ 12) }
-    requires found_value { (held.found ≡ true) × ((held.len ≤ 12) × (from ≤ held.cost)) }
-    ensures result_value { (P : Problem) → Given P setup entries.now
-        → Limited P setup.task → Shortest P P.most_cost (view held) held.len → Dearer P from → view result ≡ first_good P }
-    ensures len_bound { result.len ≤ 12 }
+    requires from_bound { from ≤ held.cost }
+    ensures { (P : Problem) → Given P setup entries.now
+        → Limited P setup.task → Shortest P P.most_cost (view (Some held)) held.len → Dearer P from → view (Some result) ≡ first_good P }
 {
     let costs = Costs {
         from,
         to: held.cost as usize,
     };
-    let best = costs_between(entries, setup, held, costs, bits);
-    if best.found {
-        return best;
-    }
-    held
+    costs_between(entries, setup, held, costs, bits).unwrap_or(held)
 }
 
 // The first good choice, where the incumbent has the fewest gates: one that costs less than the incumbent, or the incumbent. The filter at
 // hand serves up to the cost from which on a wider one is worth the time to fill it.
-pub fn cheapest(
-    entries: &[Entry],
-    setup: Setup,
-    held: Best,
-    bits: &mut [u64],
-) -> Best
+pub fn cheapest(entries: &[Entry], setup: Setup, held: Best, bits: &mut [u64]) -> Best
     requires known { OnWires entries.now }
     requires ready { Ready setup.task setup.least × (setup.task.gate_limit ≤ 12) }
-    requires found_value { (held.found ≡ true) × (held.len ≤ 12) }
     requires sieve { Sieve bits.old setup.reach (entry_gates entries.now) setup.task.controls setup.task.wanted setup.task.outputs
         setup.task.free }
-    ensures result_value { (P : Problem) → Given P setup entries.now
-        → Limited P setup.task → Shortest P P.most_cost (view held) held.len → view result ≡ first_good P }
-    ensures len_bound { result.len ≤ 12 }
+    ensures { (P : Problem) → Given P setup entries.now
+        → Limited P setup.task → Shortest P P.most_cost (view (Some held)) held.len → view (Some result) ≡ first_good P }
 {
     let task = setup.task;
     let least = setup.least;
     let reach = setup.reach;
     let turn = prospects::wider_from(entries.len(), task, least, held, reach.radius);
     let costs = Costs { from: 0, to: turn };
-    let early = costs_between(entries, setup, held, costs, bits);
-    if early.found {
+    if let Some(early) = costs_between(entries, setup, held, costs, bits) {
         return early;
     }
     let wider = Setup {

@@ -1,6 +1,6 @@
 // Iterative deepening: one walk after another, with rising counts of gates, and with rising costs. The contracts speak of every problem
 // that the arguments pose.
-ghost use Rattle.std.specs.Prelude.{◌≡◌, true, ◌≤◌};
+ghost use Rattle.std.specs.Prelude.{◌≡◌, ◌≤◌, Some};
 ghost use Rattle.problem.specs.order.View.{view};
 ghost use Rattle.problem.specs.Problems.{Problem};
 ghost use Rattle.problem.specs.Inner.{Past, Dearer, Shortest};
@@ -10,8 +10,8 @@ ghost use Rattle.walk.specs.node.States.{Supplied, Ready, Given, Limited};
 ghost use Rattle.solver.specs.deepening.Deepening.{Counted, Deepened, Priced, Cheapened, limited_to};
 
 use bounds::budget;
+use problem::Entry;
 use problem::order::Best;
-use problem::{Entry, best};
 use walk::node::{Setup, Task};
 
 // The counts of gates from `from` to `most`, both included.
@@ -36,37 +36,28 @@ pub fn fewest(
     counts: Counts,
     bits: &[u64],
     sums: &[u8],
-) -> Best
+) -> Option<Best>
     requires supplied { Supplied entries.now setup.task bits.now setup.reach }
     requires ready { Ready setup.task setup.least × ((counts.from ≤ counts.most) × (counts.most ≤ 12)) }
-    ensures deepened { (P : Problem) → Given P setup entries.now
+    ensures { (P : Problem) → Given P setup entries.now
         → setup.task.cost_limit ≤ P.most_cost → counts.most ≤ P.most_gates → Past P setup.task.cost_limit counts.from
         → Counted P setup.task.cost_limit sums.now → Deepened P setup.task.cost_limit counts.most result }
-    ensures len_bound { result.len ≤ 12 }
 {
     for g in counts.from..counts.most {
-        let b = walk::run(entries, setup, g, bits, sums);
-        if b.found {
-            return b;
+        if let Some(b) = walk::run(entries, setup, g, bits, sums) {
+            return Some(b);
         }
     }
     walk::run(entries, setup, counts.most, bits, sums)
 }
 
 // The search at one cost, the task's limit: deepening on gates from `from` up to as many as the cost buys.
-fn at_cost(
-    entries: &[Entry],
-    setup: Setup,
-    from: usize,
-    bits: &[u64],
-    sums: &[u8],
-) -> Best
+fn at_cost(entries: &[Entry], setup: Setup, from: usize, bits: &[u64], sums: &[u8]) -> Option<Best>
     requires supplied { Supplied entries.now setup.task bits.now setup.reach }
     requires ready { Ready setup.task setup.least × (setup.task.gate_limit ≤ 12) }
-    ensures priced { (P : Problem) → Given P setup entries.now
+    ensures { (P : Problem) → Given P setup entries.now
         → setup.task.cost_limit ≤ P.most_cost → setup.task.gate_limit ≡ P.most_gates → Past P setup.task.cost_limit from
         → Counted P setup.task.cost_limit sums.now → Priced P setup.task.cost_limit result }
-    ensures len_bound { result.len ≤ 12 }
 {
     let most = budget::buys(
         setup.least.low,
@@ -76,7 +67,7 @@ fn at_cost(
         setup.task.gate_limit,
     );
     if most < from {
-        return best::nothing();
+        return None;
     }
     let counts = Counts { from, most };
     fewest(entries, setup, counts, bits, sums)
@@ -107,15 +98,14 @@ pub fn cheaper(
     costs: Costs,
     bits: &[u64],
     sums: &[u8],
-) -> Best
+) -> Option<Best>
     requires supplied { Supplied entries.now setup.task bits.now setup.reach }
     requires ready { Ready setup.task setup.least × (setup.task.gate_limit ≤ 12) }
     requires marked { Marked (entry_prices entries.now) setup.task.gate_limit sums.now }
-    requires found_value { (held.found ≡ true) × ((costs.from ≤ costs.to) × (costs.to ≤ held.cost)) }
-    ensures cheapened { (P : Problem) → Given P setup entries.now
-        → Limited P setup.task → Shortest P P.most_cost (view held) held.len → Dearer P costs.from
+    requires costs_rise { (costs.from ≤ costs.to) × (costs.to ≤ held.cost) }
+    ensures { (P : Problem) → Given P setup entries.now
+        → Limited P setup.task → Shortest P P.most_cost (view (Some held)) held.len → Dearer P costs.from
         → Cheapened P costs.to result }
-    ensures len_bound { result.len ≤ 12 }
 {
     let task = setup.task;
     let least = setup.least;
@@ -126,10 +116,9 @@ pub fn cheaper(
             least,
             reach,
         };
-        let b = at_cost(entries, at, held.len, bits, sums);
-        if b.found {
-            return b;
+        if let Some(b) = at_cost(entries, at, held.len, bits, sums) {
+            return Some(b);
         }
     }
-    best::nothing()
+    None
 }

@@ -12,6 +12,5 @@ use Rattle.near_misses.specs.near_offer.Loose.{loosened}
 use Rattle.near_misses.proofs.near_offer.consider.Given as goal
 
 abbrev pub invariant-loop-i : goal.invariant-loop-i
-invariant-loop-i l = (l.b.len ≤ 12)
-    × ((P : Problem) → Asks P l.task → At P l.s
-    → view l.b ≡ improve (within (loosened l.task l.k P) l.task.cost_limit) (view l.initial.b) (map (choice_of P (list_of l.s)) (take l.i (layouts_for l.task.outputs l.task.free))))
+invariant-loop-i l = (P : Problem) → Asks P l.task → At P l.s
+    → view l.b ≡ improve (within (loosened l.task l.k P) l.task.cost_limit) (view l.initial.b) (map (choice_of P (list_of l.s)) (take l.i (layouts_for l.task.outputs l.task.free)))

@@ -20,11 +20,11 @@ use Rattle.near_misses.specs.near_offer.Loose.{loosened}
 use Rattle.near_misses.proofs.near_walk.+dfs.Goals as goal
 use Rattle.near_misses.proofs.near_walk.+dfs.Goals.{Joined-hopeful, then-hopeful, else-hopeful}
 
-pub returns-then-remaining-eq0-clause-result_value : goal.returns-then-remaining-eq0-clause-result_value
+pub returns-then-remaining-eq0 : goal.returns-then-remaining-eq0
 unfolding tried_under
-returns-then-remaining-eq0-clause-result_value t c =
+returns-then-remaining-eq0 t c =
     λ P posed at.
-    c.consider_near-b.ensures.result_value P posed.asks at
+    c.consider_near-b.ensures P posed.asks at
     ∙ sym (ap (improve (within (loosened c.args.task c.args.k P) c.args.task.cost_limit) (view c.args.best))
     (pruned_zero needless (here (loosened c.args.task c.args.k P)) P.gates (list_of c.args.s) c.args.remaining c.if-remaining-eq0.true))
 
@@ -32,7 +32,7 @@ pub loop-entry-init : goal.loop-entry-init
 unfolding improve flat_map
 loop-entry-init t c =
     let z = c.if-remaining-eq0.false in
-    (omega arith, (c.consider_near-b.ensures.len_bound_2, λ P posed at. refl))
+    (omega arith, λ P posed at. refl)
 
 -- what is known in a turn of the loop
 module _ (t : ℕ) (c : Joined-hopeful t) where
@@ -67,44 +67,40 @@ module _ (t : ℕ) (c : Joined-hopeful t) where
         (branches needless (here (loose P)) P.gates (list_of node) rest (c.loop-entry.entry-index + 1))
     turned at y e =
         walk_turn needless (loose P) limit (list_of node) rest c.loop-entry.entry-index (view c.consider_near-b.result) (view c.loop-entry.b) y
-        (entry_place P task c.args.entries.now posed c.loop-entry.entry-index index) (c.loop-entry.invariant.1.1 P posed at)
+        (entry_place P task c.args.entries.now posed c.loop-entry.entry-index index) (c.loop-entry.invariant.1 P posed at)
         (e ∙ ap (λ (g : ℕ). tried_by needless (loose P) limit (list_of node) rest g (view c.loop-entry.b))
         (sym (entry_gate P task c.args.entries.now posed c.loop-entry.entry-index _ index)))
 
   -- what the turn comes to, by each of its two ways
-  turn : (c.if-hopeful.b.len ≤ 12)
-      × ((P : Problem) → Posed P task c.args.entries.now → At P node
-      → view c.if-hopeful.b ≡ tried_by needless (loose P) limit (list_of node) rest entry.gate (view c.loop-entry.b))
+  turn : (P : Problem) → Posed P task c.args.entries.now → At P node
+      → view c.if-hopeful.b ≡ tried_by needless (loose P) limit (list_of node) rest entry.gate (view c.loop-entry.b)
   turn =
       elim c.if-hopeful.branch [
         | then-hopeful w ↦ (
-          rw w.b-is w.dfs-b.ensures.len_bound,
           λ P posed at.
               let is = tried_is P posed in
               let f = w.advance-node.ensures.follows P posed.asks at is c.table_of-table.ensures in
               ap view w.b-is
-              ∙ w.dfs-b.ensures.result_value P posed f.at
+              ∙ w.dfs-b.ensures P posed f.at
               ∙ ap (λ (l : List ℕ). tried_under needless (loose P) limit l rest (view c.loop-entry.b)) f.longer
               ∙ by_entering needless (loose P) limit (list_of node) rest entry.gate (view c.loop-entry.b)
-              (c.hopeful.ensures.gate_value P posed.asks at is c.table_of-table.ensures w.if-hopeful.true),
+              (c.hopeful.ensures.gate_value P posed.asks at is c.table_of-table.ensures w.if-hopeful.true)
         )
         | else-hopeful w ↦ (
-          rw w.b-is c.loop-entry.invariant.1.0,
-          λ P posed at. ap view w.b-is ∙ c.hopeful.ensures.best_value P posed.asks at (tried_is P posed) c.table_of-table.ensures w.if-hopeful.false,
+          λ P posed at. ap view w.b-is ∙ c.hopeful.ensures.best_value P posed.asks at (tried_is P posed) c.table_of-table.ensures w.if-hopeful.false
         )
       ]
 
 pub loop-entry-preserved : goal.loop-entry-preserved
 loop-entry-preserved t c =
-    let r = turn t c in
-    (c.loop-entry.invariant.0, (r.0, λ P posed at. turned t c P posed at (view c.if-hopeful.b) (r.1 P posed at)))
+    (c.loop-entry.invariant.0, λ P posed at. turned t c P posed at (view c.if-hopeful.b) (turn t c P posed at))
 
-pub returns-clause-result_value : goal.returns-clause-result_value
-returns-clause-result_value t c =
+pub returns : goal.returns
+returns t c =
     let q : c.loop-entry.entry-index ≡ length c.args.entries.now = let y = c.loop-entry-test.false in omega arith in
     let k = c.loop-entry.invariant.0 in
     λ P posed at.
     walk_end needless (loosened c.args.task c.args.k P) c.args.task.cost_limit (list_of c.args.s) c.args.remaining (view c.args.best)
     (view c.consider_near-b.result) (view c.loop-entry.b) (omega arith)
-    (c.consider_near-b.ensures.result_value P posed.asks at)
-    (rw (q, entry_count P c.args.task c.args.entries.now posed) at (c.loop-entry.invariant.1.1 P posed at))
+    (c.consider_near-b.ensures P posed.asks at)
+    (rw (q, entry_count P c.args.task c.args.entries.now posed) at (c.loop-entry.invariant.1 P posed at))

@@ -11,8 +11,8 @@ use Rattle.near_misses.specs.near_offer.Loose.{loosened}
 use Rattle.near_misses.proofs.near_walk.+dfs.Given as goal
 
 abbrev pub invariant-loop-entry : goal.invariant-loop-entry
-invariant-loop-entry l = (1 ≤ l.remaining) × ((l.b.len ≤ 12) × ((P : Problem) → Posed P l.task l.entries → At P l.s
-    → view l.b ≡ improve (within (loosened l.task l.k P) l.task.cost_limit) (view l.initial.b) (branches needless (here (loosened l.task l.k P)) P.gates (list_of l.s) (l.remaining - 1) l.entry-index)))
+invariant-loop-entry l = (1 ≤ l.remaining) × ((P : Problem) → Posed P l.task l.entries → At P l.s
+    → view l.b ≡ improve (within (loosened l.task l.k P) l.task.cost_limit) (view l.initial.b) (branches needless (here (loosened l.task l.k P)) P.gates (list_of l.s) (l.remaining - 1) l.entry-index))
 
 abbrev pub decreases-dfs : goal.decreases-dfs
 decreases-dfs l = l.remaining

@@ -6,15 +6,15 @@ use Rattle.std.proofs.lemmas.List.Sums.{sum-map, sum_by-cons}
 use Rattle.logic.specs.Rules.{both, all_below}
 use Rattle.logic.specs.Lists.{all_of, total, along, back}
 
+pub and_both : (a b : Bool) → (a && b) ≡ both a b
+and_both true b = refl
+and_both false b = refl
+
 module _ {A : Type 0} where
   pub list_all_is_all_of : (p : A → Bool) (xs : List A) → list_all p xs ≡ all_of p xs
   unfolding all_of
   list_all_is_all_of p [] = refl
   list_all_is_all_of p (x ∷ xs) = rw (list_all_is_all_of p xs) (and_both (p x) (all_of p xs))
-    where
-      and_both : (a b : Bool) → (a && b) ≡ both a b
-      and_both true b = refl
-      and_both false b = refl
 
   pub sum_by_is_total : (f : A → ℕ) (xs : List A) → sum_by f xs ≡ total f xs
   unfolding total

@@ -37,12 +37,11 @@ fn weight_for(weights: Weights, kind: Kind) -> u8
 }
 
 // The weight of a gate byte.
+#[tactic(auto, unfolding(crate::specs::Measure::weight_of))]
 pub fn weight(weights: Weights, b: u8) -> u8
     ensures { result ≡ weight_of weights b }
 {
-    let g = gate::decode(b);
-    let kind = g.kind;
-    weight_for(weights, kind)
+    weight_for(weights, gate::decode(b).kind)
 }
 
 // The cost of a list: the sum of the prices of its gates.
@@ -50,11 +49,5 @@ pub fn cost(gates: &[u8], prices: Weights) -> u16
     requires { length gates.now ≤ 256 }
     ensures { result ≡ cost (weight_of prices) gates.now }
 {
-    let mut sum: u16 = 0;
-    let mut i = 0;
-    while i < gates.len() {
-        sum += weight(prices, gates[i]) as u16;
-        i += 1;
-    }
-    sum
+    gates.iter().map(|&b| u16::from(weight(prices, b))).sum()
 }

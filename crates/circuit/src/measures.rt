@@ -23,8 +23,8 @@ pub fn measures_with(gates: u8, cost: u16, times: [u16; 5]) -> Measures
     ensures { result ≡ measures_with gates cost times }
 {
     Measures {
-        gates: gates,
-        cost: cost,
+        gates,
+        cost,
         depth: timing::latest(times),
         ready0: times[0],
         ready1: times[1],
@@ -35,6 +35,7 @@ pub fn measures_with(gates: u8, cost: u16, times: [u16; 5]) -> Measures
 }
 
 // The measures of a gate list at these prices and durations.
+#[tactic(auto, unfolding(crate::specs::measures::Measures::measures_of))]
 pub fn measure_list(list: &[u8], prices: Weights, durations: Weights) -> Measures
     requires { length list.now ≤ 255 }
     ensures { result ≡ measures_of (weight_of prices) (weight_of durations) list.now }

@@ -1,8 +1,8 @@
 // Ready times: for each of five wires, the time from which it is free (document 01: its free time). The latest is the depth.
 ghost use Rattle.std.specs.Prelude.{◌≡◌, ℕ, ◌≤◌, ◌+◌, max, length, get_or};
-ghost use Rattle.circuit.specs.Measure.{weight_of, controls_ready, hold_controls, hold, ready_times, greatest};
+ghost use Rattle.circuit.specs.Measure.{controls_ready, hold_controls, hold, ready_times, greatest};
 
-use crate::Weights;
+use crate::Rate;
 use gate::{Gate, Kind};
 
 // The time from which all controls of a gate are free.
@@ -49,13 +49,13 @@ pub fn hold(g: Gate, duration: u8, times: [u16; 5]) -> [u16; 5]
 }
 
 // The ready times of the five wires after the list.
-pub fn ready_times(gates: &[u8], durations: Weights) -> [u16; 5]
+pub fn ready_times<R: Rate>(gates: &[u8], durations: R) -> [u16; 5]
     requires { length gates.now ≤ 256 }
-    ensures { result ≡ ready_times (weight_of durations) gates.now }
+    ensures { result ≡ ready_times (R.rate durations) gates.now }
 {
     let mut times = [0u16; 5];
     for &b in gates {
-        let next = hold(gate::decode(b), crate::weight(durations, b), times);
+        let next = hold(gate::decode(b), durations.weight(b), times);
         times = next;
     }
     times

@@ -1,5 +1,5 @@
 -- What the library's chains of iterators compute, in the words of specs/Lists.
-use Rattle.std.proofs.Common.{◌≡◌, ℕ, suc, zero, ◌+◌, ◌<◌, ◌≤◌, Bool, true, false, ◌&&◌, List, [], ◌∷◌, ◌++◌, length, get_or, map, sum, sum_by, fold, reverse, refl, sym, ap, subst, ◌∙◌, arith}
+use Rattle.std.proofs.Common.{◌≡◌, ℕ, suc, zero, ◌+◌, ◌<◌, ◌≤◌, Bool, true, false, ◌&&◌, ◌||◌, List, [], ◌∷◌, ◌++◌, length, get_or, map, sum, sum_by, fold, reverse, refl, sym, ap, subst, ◌∙◌, arith}
 use mathlib.Core.Logic.{⊎_elim}
 use native.Mathlib.Nat.{eq-or-lt_of_le}
 use denote.Param.Members.{Mut}
@@ -9,22 +9,27 @@ use Rattle.std.specs.List.{list_all, range_with_len}
 use Rattle.std.proofs.lemmas.Grind.{reverse_onto}
 use Rattle.std.proofs.lemmas.List.Sums.{sum-map, sum_by-cons}
 use Rattle.std.proofs.lemmas.List.FromFn.{length-range_with_len, get_or-range_with_len, fill_by_all}
-use Rattle.logic.specs.Rules.{both, all_below}
+use Rattle.logic.specs.Rules.{both, either, all_below}
 use Rattle.logic.specs.Lists.{all_of, total, along, back}
 use Rattle.logic.proofs.Below.{below}
 use Rattle.logic.proofs.Counts.{same_truth, all_below_law}
 use Rattle.logic.proofs.Fold.{all_at}
 use Rattle.logic.proofs.Members.{place_of, all_members}
 
+-- `&` and `|` of two Booleans
+pub and_both : (a b : Bool) → (a && b) ≡ both a b
+and_both true b = refl
+and_both false b = refl
+
+pub or_either : (a b : Bool) → (a || b) ≡ either a b
+or_either true b = refl
+or_either false b = refl
+
 module _ {A : Type 0} where
   pub list_all_is_all_of : (p : A → Bool) (xs : List A) → list_all p xs ≡ all_of p xs
   unfolding all_of
   list_all_is_all_of p [] = refl
   list_all_is_all_of p (x ∷ xs) = rw (list_all_is_all_of p xs) (and_both (p x) (all_of p xs))
-    where
-      and_both : (a b : Bool) → (a && b) ≡ both a b
-      and_both true b = refl
-      and_both false b = refl
 
   pub sum_by_is_total : (f : A → ℕ) (xs : List A) → sum_by f xs ≡ total f xs
   unfolding total

@@ -3,7 +3,7 @@ ghost use Rattle.std.specs.Prelude.{◌≡◌, ◌≤◌, length, take, map};
 ghost use Rattle.outcomes.specs.preflight.Odd.{always_none};
 ghost use Rattle.outcomes.specs.Inner.{weighed};
 
-use circuit::Weights;
+use circuit::{Rate, Weights};
 use problem::Entry;
 use record::job_fields;
 
@@ -35,8 +35,8 @@ pub fn weigh(gates: &[u8], prices: Weights, durations: Weights) -> [Entry; 75]
     for (i, &gate) in gates.iter().enumerate() {
         entries[i] = Entry {
             gate,
-            price: circuit::weight(prices, gate),
-            duration: circuit::weight(durations, gate),
+            price: prices.weight(gate),
+            duration: durations.weight(gate),
         };
     }
     entries

@@ -1,80 +1,39 @@
--- Dictionary order by what is left of two lists: one byte of each, then the rest; and what is left at the end of either.
-use mathlib.Core.Path.{◌≡◌, ◌∙◌}
-use mathlib.Core.Bool.{Bool, true, false}
-use mathlib.Core.List.{List}
-use Prim.Native.Nat.{ℕ, ◌+◌, ◌≤◌, ◌<◌}
-use native.Mathlib.Decide.{dec_lt}
-use native.Mathlib.Numerals.{add-one}
-use native.Mathlib.Omega.{arith}
-use borrow.Author.Tests.{lt-ltb, le-ltb}
-use lib.Dec.{ltb}
-use lib.ListN.{length, take, drop, get_or, drop_of_length-le}
-use lib.Seq.{drop-cons, length-take-le, get_or-take}
+-- Which of two choices comes first, as the library compares: tuples by their parts, and the last part, a slice of bytes, byte by byte.
+use Rattle.std.proofs.Common.{◌≡◌, ◌∙◌, refl, ap, ℕ, Bool, true, false, List, take, arith, Option, None, Some, Ordering, Less, Equal, Greater}
+use Rattle.std.specs.Ordering.{nat_cmp, is_lt, is_some_and, partial_ordering_then}
+use Rattle.std.specs.Cmp.Lexicographic.{slice_partial_cmp}
+use Rattle.std.proofs.lemmas.Bool.Decides.{nat_tests}
+use Rattle.std.proofs.lemmas.Cmp.{same_from_slice_cmp_tested}
 use Rattle.problem.specs.order.Choices.{lex_less, before, keep}
 use Rattle.problem.specs.declared.order.Best.{Best}
-use Rattle.problem.specs.order.Inner.{ordered}
 use Rattle.problem.specs.order.View.{choice, view}
 
-module _ (a b : List ℕ) (m n i : ℕ) (hm : m ≤ length a) (hn : n ≤ length b) where
-  lex_turn : i < m → i < n
-      → lex_less (drop i (take m a)) (drop i (take n b)) ≡ ordered (get_or a i 0) (get_or b i 0) (lex_less (drop (i + 1) (take m a)) (drop (i + 1) (take n b)))
-  unfolding lex_less
-  lex_turn h k =
-      let la = length-take-le m a hm in
-      let lb = length-take-le n b hn in
-      rw (add-one, drop-cons (take m a) i 0 (omega arith), drop-cons (take n b) i 0 (omega arith), get_or-take m a i 0 h, get_or-take n b i 0 k)
+lex_is_cmp : (xs ys : List ℕ) (r : Bool) → r ≡ is_some_and is_lt (slice_partial_cmp (λ x y. Some (nat_cmp x y)) xs ys) → r ≡ lex_less xs ys
+unfolding lex_less
+lex_is_cmp = same_from_slice_cmp_tested nat_cmp is_lt lex_less refl (λ _ _. refl) (λ _ _. refl) (λ x y xs ys o h. grind (arith, nat_tests))
 
-  -- the first list is longer than the second
-  pub lex_short : i < m → n ≤ i → lex_less (drop i (take m a)) (drop i (take n b)) ≡ false
-  unfolding lex_less
-  lex_short h k =
-      let la = length-take-le m a hm in
-      let lb = length-take-le n b hn in
-      let d : length (take n b) ≤ i = omega arith in
-      rw (drop-cons (take m a) i 0 (omega arith), drop_of_length-le (take n b) d)
+-- the parts of a tuple are compared from the left, and the keys as a list from the right
+regrouped : (x y z : Option Ordering) → partial_ordering_then (partial_ordering_then x y) z ≡ partial_ordering_then x (partial_ordering_then y z)
+regrouped None y z = refl
+regrouped (Some Less) y z = refl
+regrouped (Some Equal) y z = refl
+regrouped (Some Greater) y z = refl
 
-  -- the first list is at its end
-  pub lex_end : m ≤ i → lex_less (drop i (take m a)) (drop i (take n b)) ≡ ltb i n
-  unfolding lex_less
-  lex_end h = by_length (dec_lt i n)
-    where
-      la : length (take m a) ≡ m
-      la = length-take-le m a hm
+module _ (a b : Best) where
+  abbrev key : ℕ → ℕ → Option Ordering
+  key x y = Some (nat_cmp x y)
 
-      lb : length (take n b) ≡ n
-      lb = length-take-le n b hn
+  abbrev by_keys : Option Ordering
+  by_keys =
+      partial_ordering_then
+      (partial_ordering_then
+      (partial_ordering_then (partial_ordering_then (key a.cost b.cost) (key a.len b.len)) (key a.depth b.depth))
+      (key a.layout b.layout))
+      (slice_partial_cmp key (take a.len a.path) (take b.len b.path))
 
-      by_length : Dec (i < n) → lex_less (drop i (take m a)) (drop i (take n b)) ≡ ltb i n
-      by_length (yes k) =
-          let d : length (take m a) ≤ i = rw la h in
-          rw (drop_of_length-le (take m a) d, drop-cons (take n b) i 0 (rw lb k), lt-ltb i n k)
-      by_length (no k) =
-          let d : length (take m a) ≤ i = rw la h in
-          let e : length (take n b) ≤ i = rw lb (omega arith) in
-          rw (drop_of_length-le (take m a) d, drop_of_length-le (take n b) e, le-ltb i n (omega arith))
-
-  -- one byte of each decides
-  pub lex_less_law : i < m → i < n → get_or a i 0 < get_or b i 0 → lex_less (drop i (take m a)) (drop i (take n b)) ≡ true
-  lex_less_law h k l = lex_turn h k ∙ rw (lt-ltb (get_or a i 0) (get_or b i 0) l)
-
-  pub lex_more : i < m → i < n → get_or b i 0 < get_or a i 0 → lex_less (drop i (take m a)) (drop i (take n b)) ≡ false
-  lex_more h k l = lex_turn h k ∙ rw (le-ltb (get_or a i 0) (get_or b i 0) (omega arith), lt-ltb (get_or b i 0) (get_or a i 0) l)
-
-  -- or the rest does
-  pub lex_rest : i < m → i < n → get_or a i 0 ≤ get_or b i 0 → get_or b i 0 ≤ get_or a i 0
-      → lex_less (drop i (take m a)) (drop i (take n b)) ≡ lex_less (drop (i + 1) (take m a)) (drop (i + 1) (take n b))
-  lex_rest h k l l' = lex_turn h k ∙ rw (le-ltb (get_or a i 0) (get_or b i 0) l', le-ltb (get_or b i 0) (get_or a i 0) l)
-
--- the five keys, the last one first
-pub keyed : (a b : Best) (bytes layout depth gates cost : Bool)
-    → bytes ≡ lex_less (take a.len a.path) (take b.len b.path)
-    → layout ≡ ordered a.layout b.layout bytes
-    → depth ≡ ordered a.depth b.depth layout
-    → gates ≡ ordered a.len b.len depth
-    → cost ≡ ordered a.cost b.cost gates
-    → cost ≡ before (choice a) (choice b)
-unfolding before choice lex_less
-keyed a b bytes layout depth gates cost h₁ h₂ h₃ h₄ h₅ = rw (h₅, h₄, h₃, h₂, h₁)
+  pub keyed : (r : Bool) → r ≡ is_some_and is_lt by_keys → r ≡ before (choice a) (choice b)
+  unfolding before choice
+  keyed r h = lex_is_cmp _ _ r (h ∙ ap (is_some_and is_lt) (simp regrouped))
 
 -- offering a circuit, by what is held and which comes first
 pub offered_first : (best mine : Best) → best.found ≡ false → mine.found ≡ true → view mine ≡ keep (view best) (choice mine)

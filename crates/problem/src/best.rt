@@ -32,7 +32,7 @@ fn comes_first(a: Best, b: Best) -> bool
 }
 
 // The incumbent after the circuit of `mine` was offered: the one of the two that comes first.
-#[tactic(auto, using(crate::proofs::order::Bytewise::offered_first, crate::proofs::order::Bytewise::offered_before, crate::proofs::order::Bytewise::offered_after,))]
+#[tactic(auto, using(crate::proofs::order::Bytewise::offers))]
 pub fn offer(best: Best, mine: Best) -> Best
     requires len_bound { best.len ≤ 12 }
     requires len_bound_2 { (mine.len ≤ 12) × (mine.found ≡ true) }

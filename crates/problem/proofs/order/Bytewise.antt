@@ -47,3 +47,6 @@ offered_before best mine h k f = rw (h, k, f)
 pub offered_after : (best mine : Best) → best.found ≡ true → before (choice mine) (choice best) ≡ false → view best ≡ keep (view best) (choice mine)
 unfolding view keep choice before
 offered_after best mine h f = rw (h, f)
+
+-- for the goals of `offer`
+pub ruleset offers = (offered_first, offered_before, offered_after)

@@ -5,11 +5,12 @@ use native.Mathlib.Nat.{eq-or-lt_of_le}
 use denote.Param.Members.{Mut}
 use Rattle.std.specs.Fn.{Called}
 use Rattle.std.specs.Array.{IsFromFnResult, IsFromFnResultFrom}
-use Rattle.std.specs.List.{list_all, range_with_len}
+use Rattle.std.specs.Int.{from_bool}
+use Rattle.std.specs.List.{list_all, list_any, range_with_len}
 use Rattle.std.proofs.lemmas.Grind.{reverse_onto}
 use Rattle.std.proofs.lemmas.List.Sums.{sum-map, sum_by-cons}
 use Rattle.std.proofs.lemmas.List.FromFn.{fill_by_all}
-use Rattle.logic.specs.Rules.{both, either, all_below}
+use Rattle.logic.specs.Rules.{both, either, bit, all_below, some_below}
 use Rattle.logic.specs.Lists.{all_of, total, along, back}
 
 module _ {A : Type 0} where
@@ -45,6 +46,10 @@ module _ {A : Type 0} where
         fold_push [] s = refl
         fold_push (y ∷ ys) s = fold_push ys (f y s)
 
+range_last : (a n b : ℕ) → a + n ≡ b → range_with_len a (suc n) ≡ range_with_len a n ++ (b ∷ [])
+range_last a zero b e = ap (λ x. x ∷ []) (omega arith)
+range_last a (suc n) b e = ap (λ xs. a ∷ xs) (range_last (a + 1) n b (omega arith))
+
 -- a test of every number below n
 module _ (f : ℕ → Bool) where
   pub list_all_is_all_below : (n : ℕ) → list_all f (range_with_len 0 n) ≡ all_below n f
@@ -52,10 +57,6 @@ module _ (f : ℕ → Bool) where
   list_all_is_all_below (suc n) =
       ap (list_all f) (range_last 0 n n (omega arith)) ∙ all_last (range_with_len 0 n) n ∙ ap (both (f n)) (list_all_is_all_below n)
     where
-      range_last : (a n b : ℕ) → a + n ≡ b → range_with_len a (suc n) ≡ range_with_len a n ++ (b ∷ [])
-      range_last a zero b e = ap (λ x. x ∷ []) (omega arith)
-      range_last a (suc n) b e = ap (λ xs. a ∷ xs) (range_last (a + 1) n b (omega arith))
-
       all_last : (xs : List ℕ) (x : ℕ) → list_all f (xs ++ (x ∷ [])) ≡ both (f x) (list_all f xs)
       all_last [] x = by_test (f x)
         where
@@ -68,6 +69,30 @@ module _ (f : ℕ → Bool) where
           by_tests true b c = refl
           by_tests false true c = refl
           by_tests false false c = refl
+
+  -- and one that some number below n passes
+  pub list_any_is_some_below : (n : ℕ) → list_any f (range_with_len 0 n) ≡ some_below n f
+  list_any_is_some_below zero = refl
+  list_any_is_some_below (suc n) =
+      ap (list_any f) (range_last 0 n n (omega arith)) ∙ any_last (range_with_len 0 n) n ∙ ap (either (f n)) (list_any_is_some_below n)
+    where
+      any_last : (xs : List ℕ) (x : ℕ) → list_any f (xs ++ (x ∷ [])) ≡ either (f x) (list_any f xs)
+      any_last [] x = by_test (f x)
+        where
+          by_test : (a : Bool) → (a || false) ≡ either a false
+          by_test true = refl
+          by_test false = refl
+      any_last (y ∷ ys) x = rw (any_last ys x) (by_tests (f y) (f x) (list_any f ys))
+        where
+          by_tests : (a b c : Bool) → (a || either b c) ≡ either b (a || c)
+          by_tests true true c = refl
+          by_tests true false c = refl
+          by_tests false b c = refl
+
+-- a Boolean converted to a number
+pub from_bool_is_bit : (b : Bool) → from_bool b ≡ bit b
+from_bool_is_bit true = refl
+from_bool_is_bit false = refl
 
 -- `&` and `|` of two Booleans
 pub and_both : (a b : Bool) → (a && b) ≡ both a b

@@ -70,7 +70,7 @@ pub fn cell(cells: [u16; 5], i: usize) -> u16
 }
 
 // `x` where `first` is true, else `y`.
-pub fn picked(first: bool, x: u16, y: u16) -> u16
+pub fn picked<T: Copy>(first: bool, x: T, y: T) -> T
     ensures { result ≡ pick first x y }
 {
     if first { x } else { y }

@@ -70,7 +70,7 @@ pub fn cell<const N: usize>(cells: [u16; N], i: usize) -> u16
 }
 
 // `x` where `first` is true, else `y`.
-pub fn picked(first: bool, x: u16, y: u16) -> u16
+pub fn picked<T: Copy>(first: bool, x: T, y: T) -> T
     ensures { result ≡ pick first x y }
 {
     if first { x } else { y }

@@ -19,8 +19,8 @@ pub fn start() -> Masks
     ensures { result ≡ no_masks }
 {
     Masks {
-        sleep: [0u32; 5],
-        cancel: [0u32; 5],
+        sleep: [0; 5],
+        cancel: [0; 5],
     }
 }
 
@@ -29,8 +29,8 @@ pub fn step(g: u8, marks: Masks) -> Masks
     requires { target_of g < 5 }
     ensures { result ≡ stepped g marks }
 {
-    let t = logic::wide(g) / 32;
-    let m = logic::wide(g) % 32;
+    let t = usize::from(g) / 32;
+    let m = usize::from(g) % 32;
     let wires = m | (1 << t);
     let apart = words::clear(wires);
     let free = words::clear(1 << t);

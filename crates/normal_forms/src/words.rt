@@ -5,19 +5,12 @@ ghost use Rattle.logic.specs.Rules.{pick};
 ghost use Rattle.logic.specs.Bit.{bit_of};
 ghost use Rattle.normal_forms.specs.words.Words.{every, clear_of, sleep_word, cancel_word};
 
-// The first of two words, or the second.
-pub fn picked(first: bool, x: u32, y: u32) -> u32
-    ensures { result ≡ pick first x y }
-{
-    if first { x } else { y }
-}
-
 // `pattern` if wire `w` is in the set, all masks if it is not.
 fn where_set(wires: usize, w: usize, pattern: u32) -> u32
     requires { w < 64 }
     ensures { result ≡ pick (eqb (bit_of w wires) 1) pattern every }
 {
-    picked((wires >> w) % 2 == 1, pattern, 0xFFFFFFFF)
+    logic::picked((wires >> w) % 2 == 1, pattern, 0xFFFFFFFF)
 }
 
 // The control masks that contain no wire of the set.
@@ -37,10 +30,10 @@ pub fn sleep_word(wires: usize, apart: u32, t: usize, u: usize, old: u32) -> u32
     requires { u < 64 }
     ensures { result ≡ sleep_word wires apart t u old }
 {
-    picked(
+    logic::picked(
         (wires >> u) % 2 == 1,
         0,
-        apart & picked(u < t, 0xFFFFFFFF, old),
+        apart & logic::picked(u < t, 0xFFFFFFFF, old),
     )
 }
 
@@ -50,5 +43,5 @@ pub fn cancel_word(m: usize, free: u32, t: usize, u: usize, old: u32) -> u32
     requires { (u < 64) × (m < 32) }
     ensures { result ≡ cancel_word m free t u old }
 {
-    picked((m >> u) % 2 == 1, 0, free & old) | picked(u == t, 1 << m, 0)
+    logic::picked((m >> u) % 2 == 1, 0, free & old) | logic::picked(u == t, 1 << m, 0)
 }

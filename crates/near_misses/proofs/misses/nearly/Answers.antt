@@ -1,10 +1,12 @@
-use mathlib.Core.Path.{◌∙◌, ap, ap₂}
-use Prim.Native.Nat.{ℕ}
-use lib.Dec.{leb}
-use Rattle.logic.specs.Rules.{both}
+use mathlib.Core.Path.{refl}
+use borrow.Author.Tests.{le-leb, lt-leb}
 use Rattle.near_misses.specs.misses.Columns.{nearly}
 use Rattle.near_misses.proofs.misses.nearly.Goals as goal
 
-pub returns : goal.returns
+pub returns-then-missed_on-k : goal.returns-then-missed_on-k
 unfolding nearly
-returns c = c.both.ensures ∙ ap₂ both (ap (λ (m : ℕ). leb m c.args.k) c.missed_on.ensures) c.tidy.ensures
+returns-then-missed_on-k c = rw (← c.missed_on.ensures, le-leb _ _ c.if-missed_on-k.true) c.tidy.ensures
+
+pub returns-else-missed_on-k : goal.returns-else-missed_on-k
+unfolding nearly
+returns-else-missed_on-k c = rw (← c.missed_on.ensures, lt-leb _ _ c.if-missed_on-k.false) refl

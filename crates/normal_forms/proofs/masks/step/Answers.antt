@@ -23,8 +23,8 @@ module _ (g t m wires apart free : ℕ) (ht : t ≡ target_of g) (hm : m ≡ mas
 pub returns : goal.returns
 unfolding stepped
 returns c =
-    let t = ap (λ (x : ℕ). x / 32) c.wide-t.ensures in
-    let m = ap (λ (x : ℕ). x % 32) c.wide-m.ensures in
+    let t = ap (λ (x : ℕ). x / 32) c.from-t.ensures in
+    let m = ap (λ (x : ℕ). x % 32) c.from-m.ensures in
     let h : target_of c.args.g < 64 = let p = c.requires in omega arith in
     let own = ap (λ (x : ℕ). 1 * 2 ^ x % 2 ^ 64) t ∙ shifted_one (target_of c.args.g) h in
     let sleep = sleeps c.args.g _ _ _ _ _ t m (ap₂ bit_or m own) c.clear-apart.ensures (c.clear-free.ensures ∙ ap clear_of own) in

@@ -1,18 +1,17 @@
-use mathlib.Core.Path.{ap, ◌∙◌}
+use mathlib.Core.Path.{refl, ap}
 use native.Mathlib.Omega.{arith}
 use borrow.Author.Tests.{eq-eqb, ne_eqb, lt-ltb, le-ltb}
 use lib.Dec.{eqb}
-use Rattle.logic.specs.Rules.{both}
-use Rattle.columns.specs.Wanted.{dirt}
 use Rattle.outputs.specs.worth.Inner.{mends_by}
-use Rattle.outputs.proofs.plan.Planned.{pick_both}
 use Rattle.outputs.proofs.worth.mends.Goals as goal
 
-pub returns-then-n-w : goal.returns-then-n-w
+pub returns-then-n-w-2 : goal.returns-then-n-w-2
 unfolding mends_by
-returns-then-n-w c =
-    rw (le-ltb _ _ c.if-n-w.true)
-    (c.both.ensures ∙ ap (λ x. both (eqb c.args.n c.args.w) (eqb x 0)) c.dirt.ensures ∙ pick_both (eqb c.args.n c.args.w) (eqb (dirt c.args.n c.args.column) 0))
+returns-then-n-w-2 c = rw (eq-eqb _ _ c.if-n-w-2.true) (ap (λ x. eqb x 0) c.dirt.ensures)
+
+pub returns-else-n-w-2 : goal.returns-else-n-w-2
+unfolding mends_by
+returns-else-n-w-2 c = rw (ne_eqb _ _ c.if-n-w-2.false, le-ltb _ _ c.if-n-w.true) refl
 
 pub returns-then-free-eq1 : goal.returns-then-free-eq1
 unfolding mends_by

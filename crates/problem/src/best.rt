@@ -40,8 +40,7 @@ fn less_bytes(a: [u8; 12], m: usize, b: [u8; 12], n: usize) -> bool
     requires n_bound { n ≤ 12 }
     ensures { result ≡ lex_less (take m a) (take n b) }
 {
-    let mut i = 0;
-    while i < m {
+    for i in 0..m {
         if n <= i {
             return false;
         }
@@ -53,9 +52,8 @@ fn less_bytes(a: [u8; 12], m: usize, b: [u8; 12], n: usize) -> bool
         if y < x {
             return false;
         }
-        i += 1;
     }
-    i < n
+    m < n
 }
 
 // Whether the circuit of `a` comes before that of `b`.

@@ -67,25 +67,12 @@ fn between_with_room(
     ensures len_bound { result.len ≤ 12 }
 {
     let room = room_for(costs.to, sums.len());
-    between_with_sums(
-        entries,
-        setup,
-        held,
-        costs,
-        bits,
-        &mut sums[..room],
-    )
+    between_with_sums(entries, setup, held, costs, bits, &mut sums[..room])
 }
 
 // The first good choice, where its cost is one of `costs`; else nothing is found. The incumbent has the fewest gates, costs at least `to`,
 // and nothing good costs less than `from`.
-fn costs_between(
-    entries: &[Entry],
-    setup: Setup,
-    held: Best,
-    costs: Costs,
-    bits: &[u64],
-) -> Best
+fn costs_between(entries: &[Entry], setup: Setup, held: Best, costs: Costs, bits: &[u64]) -> Best
     requires supplied { Supplied entries.now setup.task bits.now setup.reach }
     requires ready { Ready setup.task setup.least × (setup.task.gate_limit ≤ 12) }
     requires found_value { (held.found ≡ true) × ((costs.from ≤ costs.to) × (costs.to ≤ held.cost)) }
@@ -96,20 +83,12 @@ fn costs_between(
 {
     // a place for each cost up to 3060 with each count of gates up to 12
     let mut sums = [0u8; 39793];
-    between_with_room(
-        entries, setup, held, costs, bits, &mut sums,
-    )
+    between_with_room(entries, setup, held, costs, bits, &mut sums)
 }
 
 // The first good choice, where the incumbent has the fewest gates and nothing good costs less than `from`: one that costs less than the
 // incumbent, or the incumbent.
-pub fn cheapest_from(
-    entries: &[Entry],
-    setup: Setup,
-    held: Best,
-    from: usize,
-    bits: &[u64],
-) -> Best
+pub fn cheapest_from(entries: &[Entry], setup: Setup, held: Best, from: usize, bits: &[u64]) -> Best
     requires supplied { Supplied entries.now setup.task bits.now setup.reach }
     requires ready { Ready setup.task setup.least × (setup.task.gate_limit ≤ 12) }
     requires found_value { (held.found ≡ true) × ((held.len ≤ 12) × (from ≤ held.cost)) }
@@ -130,12 +109,7 @@ pub fn cheapest_from(
 
 // The first good choice, where the incumbent has the fewest gates: one that costs less than the incumbent, or the incumbent. The filter at
 // hand serves up to the cost from which on a wider one is worth the time to fill it.
-pub fn cheapest(
-    entries: &[Entry],
-    setup: Setup,
-    held: Best,
-    bits: &mut [u64],
-) -> Best
+pub fn cheapest(entries: &[Entry], setup: Setup, held: Best, bits: &mut [u64]) -> Best
     requires known { OnWires entries.now }
     requires ready { Ready setup.task setup.least × (setup.task.gate_limit ≤ 12) }
     requires found_value { (held.found ≡ true) × (held.len ≤ 12) }

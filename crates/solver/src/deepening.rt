@@ -30,13 +30,7 @@ pub struct Costs {
 
 // Deepening on gates: a walk for each count, until one finds something. Sums are given only where nothing good costs less than the task's
 // limit on cost.
-pub fn fewest(
-    entries: &[Entry],
-    setup: Setup,
-    counts: Counts,
-    bits: &[u64],
-    sums: &[u8],
-) -> Best
+pub fn fewest(entries: &[Entry], setup: Setup, counts: Counts, bits: &[u64], sums: &[u8]) -> Best
     requires supplied { Supplied entries.now setup.task bits.now setup.reach }
     requires ready { Ready setup.task setup.least × ((counts.from ≤ counts.most) × (counts.most ≤ 12)) }
     ensures deepened { (P : Problem) → Given P setup entries.now
@@ -54,13 +48,7 @@ pub fn fewest(
 }
 
 // The search at one cost, the task's limit: deepening on gates from `from` up to as many as the cost buys.
-fn at_cost(
-    entries: &[Entry],
-    setup: Setup,
-    from: usize,
-    bits: &[u64],
-    sums: &[u8],
-) -> Best
+fn at_cost(entries: &[Entry], setup: Setup, from: usize, bits: &[u64], sums: &[u8]) -> Best
     requires supplied { Supplied entries.now setup.task bits.now setup.reach }
     requires ready { Ready setup.task setup.least × (setup.task.gate_limit ≤ 12) }
     ensures priced { (P : Problem) → Given P setup entries.now

@@ -32,12 +32,7 @@ pub struct Outcome {
 }
 
 // The answer, where there is an incumbent; without one the search is not done.
-fn settle(
-    entries: &[Entry],
-    setup: Setup,
-    held: Best,
-    bits: &[u64],
-) -> Outcome
+fn settle(entries: &[Entry], setup: Setup, held: Best, bits: &[u64]) -> Outcome
     requires supplied { Supplied entries.now setup.task bits.now setup.reach }
     requires ready { Ready setup.task setup.least × (setup.task.gate_limit ≤ 12) }
     requires len_bound { held.len ≤ 12 }
@@ -56,13 +51,7 @@ fn settle(
 }
 
 // The incumbent, or, where there is none, a list of the fewest gates, among these counts.
-fn go_on(
-    entries: &[Entry],
-    setup: Setup,
-    held: Best,
-    counts: Counts,
-    bits: &[u64],
-) -> Best
+fn go_on(entries: &[Entry], setup: Setup, held: Best, counts: Counts, bits: &[u64]) -> Best
     requires supplied { Supplied entries.now setup.task bits.now setup.reach }
     requires ready { Ready setup.task setup.least × ((counts.from ≤ counts.most) × (counts.most ≤ 12)) }
     requires le_from { (1 ≤ counts.from) × (held.len ≤ 12) }
@@ -141,24 +130,11 @@ fn stages(
         from: turn + 1,
         most: limit,
     };
-    stage(
-        entries,
-        task,
-        least,
-        best::nothing(),
-        more,
-        bits,
-    )
+    stage(entries, task, least, best::nothing(), more, bits)
 }
 
 // The search with filters, from `from` gates on: two stages, with room for the bits of a filter.
-fn filtered(
-    entries: &[Entry],
-    task: Task,
-    least: Least,
-    held: Best,
-    from: usize,
-) -> Outcome
+fn filtered(entries: &[Entry], task: Task, least: Least, held: Best, from: usize) -> Outcome
     requires known { OnWires entries.now }
     requires ready { Ready task least × ((from ≤ task.gate_limit) × (task.gate_limit ≤ 12)) }
     requires le_from { (1 ≤ from) × ((from ≤ 10) × (held.len ≤ 12)) }

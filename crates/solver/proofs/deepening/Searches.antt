@@ -1,11 +1,9 @@
 -- One search after the other: what a cost buys, when only exact sums can be good, and the same task with another limit.
-use mathlib.Core.Path.{◌≡◌, sym, ◌∙◌, subst}
+use mathlib.Core.Path.{◌≡◌, subst}
 use mathlib.Core.Bool.{true}
-use mathlib.Core.List.Memᴰ
 use mathlib.Core.List.{List, [], Memᴰ}
 use Prim.Native.Nat.{ℕ, ◌≤◌, ◌<◌}
 use native.Mathlib.Omega.{arith}
-use lib.ListN.{length}
 use Rattle.problem.specs.declared.Entry.{Entry}
 use Rattle.problem.specs.Entries.{entry_prices}
 use Rattle.problem.specs.declared.order.Best.{Best}

@@ -11,16 +11,16 @@ loop-g-preserved c =
     let t = c.loop-g-test.true in
     elim c.if-listed-g.branch [
       | then-listed-g w ↦
-        let k = w.count-is in (
-          omega arith,
-          ap length w.bytes-is ∙ length-set c.loop-g.bytes _ _ ∙ v.1,
-          rw (w.bytes-is, w.count-is) (kept_turn c.args.listed c.loop-g.bytes c.loop-g.count c.loop-g.g v.2 (omega (arith, v.0, v.1))),
-        )
+          let k = w.count-is in (
+            omega arith,
+            ap length w.bytes-is ∙ length-set c.loop-g.bytes _ _ ∙ v.1,
+            rw (w.bytes-is, w.count-is) (kept_turn c.args.listed c.loop-g.bytes c.loop-g.count c.loop-g.g v.2 (omega (arith, v.0, v.1))),
+          )
       | else-listed-g w ↦
-        let k = w.count-is in
-        let f = w.if-listed-g.false in (
-          omega arith,
-          ap length w.bytes-is ∙ v.1,
-          rw (w.bytes-is, w.count-is) (passed_turn c.args.listed c.loop-g.bytes c.loop-g.count c.loop-g.g v.2 f),
-        )
+          let k = w.count-is in
+          let f = w.if-listed-g.false in (
+            omega arith,
+            ap length w.bytes-is ∙ v.1,
+            rw (w.bytes-is, w.count-is) (passed_turn c.args.listed c.loop-g.bytes c.loop-g.count c.loop-g.g v.2 f),
+          )
     ]

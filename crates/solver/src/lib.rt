@@ -1,6 +1,7 @@
 // The solver: the search for the first good choice of a problem, by iterative deepening. It looks for a feasible circuit of the fewest
 // gates, the incumbent (`held`), and then for a cheaper one. Each walk prunes by a filter where that is worth the time to fill it. The
-// solver takes a list of entries, each a gate with its price and duration, and knows no job; its contracts speak of every problem that the arguments pose.
+// solver takes a list of entries, each a gate with its price and duration, and knows no job; its contracts speak of every problem that the
+// arguments pose.
 //
 // prospects: the lower bounds, and which filter is worth its time. deepening: rising counts of gates, and rising costs. cheaper: the search
 // below the incumbent's cost.

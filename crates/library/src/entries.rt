@@ -43,14 +43,12 @@ fn entries_ok(k: u32, w: usize, library: &[u8]) -> bool
     ensures { result ≡ entries_ok k w 0 (entries_of library.now) }
 {
     let mut least = 0;
-    let mut i = 0;
-    while i < library.len() / 3 {
+    for i in 0..library.len() / 3 {
         let e = entry_at(library, i);
         if !entry_ok(k, w, least, e) {
             return false;
         }
         least = logic::wide(e.gate) + 1;
-        i += 1;
     }
     true
 }

@@ -13,13 +13,11 @@ use problem::Entry;
 fn entry_for(library: &[u8], b: u8) -> Entry
     ensures { result ≡ entry_for (entries_of library.now) b }
 {
-    let mut i = 0;
-    while i < library.len() / 3 {
+    for i in 0..library.len() / 3 {
         let e = entries::entry_at(library, i);
         if e.gate == b {
             return e;
         }
-        i += 1;
     }
     Entry {
         gate: b,
@@ -40,14 +38,7 @@ fn timed(library: &[u8], b: u8) -> bool
 pub fn all_timed(library: &[u8], list: &[u8]) -> bool
     ensures { result ≡ all_of (timed library.now) list.now }
 {
-    let mut i = 0;
-    while i < list.len() {
-        if !timed(library, list[i]) {
-            return false;
-        }
-        i += 1;
-    }
-    true
+    list.iter().all(|&b| timed(library, b))
 }
 
 // The cost of a list at the library's prices.
@@ -56,11 +47,9 @@ pub fn cost(library: &[u8], list: &[u8]) -> u16
     ensures { result ≡ cost (price_in library.now) list.now }
 {
     let mut sum: u16 = 0;
-    let mut i = 0;
-    while i < list.len() {
-        let e = entry_for(library, list[i]);
-        sum += e.price as u16;
-        i += 1;
+    for &b in list {
+        let e = entry_for(library, b);
+        sum += u16::from(e.price);
     }
     sum
 }
@@ -71,13 +60,10 @@ pub fn ready_times(library: &[u8], list: &[u8]) -> [u16; 5]
     ensures { result ≡ ready_times (duration_in library.now) list.now }
 {
     let mut times = [0u16; 5];
-    let mut i = 0;
-    while i < list.len() {
-        let b = list[i];
+    for &b in list {
         let e = entry_for(library, b);
         let next = timing::hold(gate::decode(b), e.duration, times);
         times = next;
-        i += 1;
     }
     times
 }

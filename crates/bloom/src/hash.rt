@@ -13,10 +13,11 @@ pub struct Reach {
 }
 
 // What a column adds to the hash, by its wire's factor.
+#[tactic(auto, unfolding(crate::specs::hash::Reach::share_of))]
 fn share(factor: u32, column: u16) -> u32
     ensures { result ≡ share_of factor column }
 {
-    let x = column as usize * factor as usize;
+    let x = usize::from(column) * factor as usize;
     ((x ^ (x >> 23)) % 4294967296 * 2654435761 % 4294967296) as u32
 }
 

@@ -29,6 +29,7 @@ fn least_free(t: Wanted, columns: [u16; 5], n: usize, j: usize) -> usize
 
 // How many wanted bits of output `j` are missed at least, on the wires that allowed layouts give it: any data wire where layouts are free,
 // else wire `j`.
+#[tactic(auto, unfolding(crate::specs::misses::Columns::least_missed))]
 fn least_missed(t: Wanted, columns: [u16; 5], n: usize, free: usize, j: usize) -> usize
     ensures value { result ≡ least_missed t columns n free j }
     ensures upper_bound { result ≤ 16 }

@@ -5,6 +5,7 @@ ghost use Rattle.near_misses.specs.misses.Columns.{missed_by, missed_for, missed
 use columns::Wanted;
 
 // How many wanted bits of output `j` a column misses.
+#[tactic(auto, unfolding(crate::specs::misses::Columns::missed_by))]
 pub fn missed_by(t: Wanted, column: u16, j: usize) -> usize
     ensures value { result ≡ missed_by t column j }
     ensures upper_bound { result ≤ 16 }
@@ -34,6 +35,7 @@ fn missed_on(t: Wanted, columns: [u16; 5], p: u8) -> usize
 }
 
 // Whether the columns miss at most `k` wanted bits under layout `p`, and the ancilla, wire `n`, is 0 in every row.
+#[tactic(auto, unfolding(crate::specs::misses::Columns::nearly))]
 pub fn nearly(t: Wanted, n: usize, k: usize, columns: [u16; 5], p: u8) -> bool
     ensures { result ≡ nearly t n k columns p }
 {

@@ -34,22 +34,8 @@ pub fn step(g: u8, marks: Masks) -> Masks
     let wires = m | (1 << t);
     let apart = words::clear(wires);
     let free = words::clear(1 << t);
-    let sleep = marks.sleep;
-    let cancel = marks.cancel;
     Masks {
-        sleep: [
-            words::sleep_word(wires, apart, t, 0, sleep[0]),
-            words::sleep_word(wires, apart, t, 1, sleep[1]),
-            words::sleep_word(wires, apart, t, 2, sleep[2]),
-            words::sleep_word(wires, apart, t, 3, sleep[3]),
-            words::sleep_word(wires, apart, t, 4, sleep[4]),
-        ],
-        cancel: [
-            words::cancel_word(m, free, t, 0, cancel[0]),
-            words::cancel_word(m, free, t, 1, cancel[1]),
-            words::cancel_word(m, free, t, 2, cancel[2]),
-            words::cancel_word(m, free, t, 3, cancel[3]),
-            words::cancel_word(m, free, t, 4, cancel[4]),
-        ],
+        sleep: std::array::from_fn(|u| words::sleep_word(wires, apart, t, u, marks.sleep[u])),
+        cancel: std::array::from_fn(|u| words::cancel_word(m, free, t, u, marks.cancel[u])),
     }
 }

@@ -14,6 +14,7 @@ fn where_set(wires: usize, w: usize, pattern: u32) -> u32
 }
 
 // The control masks that contain no wire of the set.
+#[tactic(auto, unfolding(crate::specs::words::Words::clear_of))]
 pub fn clear(wires: usize) -> u32
     ensures { result ≡ clear_of wires }
 {
@@ -26,6 +27,7 @@ pub fn clear(wires: usize) -> u32
 // The gates of target `u` that could have stood earlier (N3), after a gate of target `t` with these wires; `apart` are the masks that
 // contain none of them. A gate that shares a wire with it stays behind it. One that shares none could stand before it if its byte is less,
 // which is so if `u < t`, or else before a gate that it could already pass.
+#[tactic(auto, unfolding(crate::specs::words::Words::sleep_word))]
 pub fn sleep_word(wires: usize, apart: u32, t: usize, u: usize, old: u32) -> u32
     requires { u < 64 }
     ensures { result ≡ sleep_word wires apart t u old }
@@ -39,6 +41,7 @@ pub fn sleep_word(wires: usize, apart: u32, t: usize, u: usize, old: u32) -> u32
 
 // The gates of target `u` that would undo an earlier one (N2), after a gate with controls `m` and target `t`; `free` are the masks without
 // wire `t`. These are that gate itself, and of the gates marked before it those that commute with it.
+#[tactic(auto, unfolding(crate::specs::words::Words::cancel_word))]
 pub fn cancel_word(m: usize, free: u32, t: usize, u: usize, old: u32) -> u32
     requires { (u < 64) × (m < 32) }
     ensures { result ≡ cancel_word m free t u old }

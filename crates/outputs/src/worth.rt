@@ -31,6 +31,7 @@ fn has_one(table: &[u16], column: u16, set: u32) -> bool
 }
 
 // Whether the new column of the target `w` mends something: it has an output that all other wires miss, or `w` is the ancilla and it is 0.
+#[tactic(auto, unfolding(crate::specs::worth::Inner::mends_by))]
 fn mends(table: &[u16], set: u32, n: usize, free: usize, w: usize, column: u16) -> bool
     requires table_len { length table.now ≡ 40 }
     requires width { Width n }

@@ -58,6 +58,7 @@ pub fn lack_of(allowed: u16, care: u16, rows: u16) -> Lack
 }
 
 // 1 if some product mends an output on wire `w`, else 0.
+#[tactic(auto, unfolding(crate::specs::matches::Inner::wire_hits))]
 pub fn wire_hits(wide: bool, t: Wanted, columns: [u16; 5], ps: [u16; 16], n: usize, w: usize) -> u16
     requires { w < 4 }
     ensures { result ≡ bit (wire_hits wide ps t columns n w) }

@@ -1,13 +1,11 @@
-use mathlib.Core.Path.{◌≡◌, refl, sym, ◌∙◌}
+use mathlib.Core.Path.{◌≡◌, refl}
 use mathlib.Core.List.{List}
 use Prim.Native.Nat.{ℕ, ◌<◌}
 use native.Mathlib.Omega.{arith}
 use borrow.Author.Tests.{eq-eqb, ne_eqb}
-use borrow.Author.Rules.{rules}
 use lib.Count.{ones, ones_in}
 use lib.Dec.{eqb}
 use lib.ListN.{length, get_or}
-use lib.Seq.{length-take-le}
 use Rattle.logic.specs.Rules.{pick}
 use Rattle.logic.specs.Answers.{refused, answered}
 use Rattle.gate.specs.Gates.{gates_for, lawful}

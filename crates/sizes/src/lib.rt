@@ -12,16 +12,12 @@ ghost use Rattle.std.specs.Prelude.{◌≡◌, ℕ, suc, ◌<◌, eqb, length, g
 ghost use Rattle.logic.specs.Rules.{pick};
 ghost use Rattle.sizes.specs.permutations.Sizes.{twelve};
 ghost use Rattle.sizes.specs.permutations.Inner.{apart, grown, Level};
-ghost use Rattle.sizes.specs.Filling.{fill_of, cells_left, filled_answer};
+ghost use Rattle.record.specs.Answers.{reply};
+ghost use Rattle.sizes.specs.Filling.{fill_of, cells_left};
 
 use gate::gate_tables;
-
-// The answer: a refusal code, or that the whole table of sizes was filled.
-#[derive(Clone, Copy)]
-pub enum Filled {
-    Refused(u8),
-    Whole,
-}
+use record::refusal;
+use record::refusal::Refusal;
 
 // Whether no neighbor of the permutation at place `r` has a cell that holds `k`.
 fn apart(gates: &[u8], cells: &[u8], r: usize, k: u8) -> bool
@@ -84,15 +80,14 @@ fn clear(cells: &mut [u8])
 }
 
 // Fills a buffer of 40,320 bytes with the table of sizes.
-pub fn fill(cells: &mut [u8]) -> Filled
-    ensures result_value { filled_answer result ≡ fill_of cells.old }
+#[tactic(auto, unfolding(crate::specs::Filling::fill_of, crate::specs::Filling::fill_code, crate::specs::Filling::cells_left))]
+pub fn fill(cells: &mut [u8]) -> Result<(), Refusal>
+    ensures result_value { reply result ≡ fill_of cells.old }
     ensures cells_after { cells.new ≡ cells_left cells.old }
 {
-    if cells.len() != 40320 {
-        return Filled::Refused(25);
-    }
+    refusal::kept(cells.len() == 40320, Refusal::SizesLength)?;
     clear(cells);
     let gates = gate_tables::gate_table(2, 3);
     grow_all(&gates[..12], cells);
-    Filled::Whole
+    Ok(())
 }

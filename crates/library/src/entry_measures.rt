@@ -27,11 +27,11 @@ fn entry_for(library: &[u8], b: u8) -> Entry
 }
 
 // Whether a gate has a duration. In a sound library every listed gate has one of at least 1, so this asks whether the gate is listed.
+#[tactic(auto, unfolding(crate::specs::entries::Inner::timed))]
 fn timed(library: &[u8], b: u8) -> bool
     ensures { result ≡ timed library.now b }
 {
-    let e = entry_for(library, b);
-    1 <= e.duration
+    1 <= entry_for(library, b).duration
 }
 
 // Whether every gate of a list has a duration in the library.
@@ -46,12 +46,9 @@ pub fn cost(library: &[u8], list: &[u8]) -> u16
     requires { length list.now ≤ 255 }
     ensures { result ≡ cost (price_in library.now) list.now }
 {
-    let mut sum: u16 = 0;
-    for &b in list {
-        let e = entry_for(library, b);
-        sum += u16::from(e.price);
-    }
-    sum
+    list.iter()
+        .map(|&b| u16::from(entry_for(library, b).price))
+        .sum()
 }
 
 // The ready times of the five wires after a list, at the library's durations.

@@ -26,20 +26,19 @@ loop-k-init c = (c.first_good-best.ensures.len_bound, (c.first_good-best.ensures
 -- something is found
 pub returns-then-best-clause-misses_value : goal.returns-then-best-clause-misses_value
 unfolding closest_choice
-returns-then-best-clause-misses_value c = let e = fewest_found (data_wires c.args.job.now) (rows c.args.job.now) (problem_of c.args.job.now) c.loop-k.k (omega (arith, c.loop-k-test.true)) c.loop-k.invariant.1.1 (choice c.loop-k.best) (sym c.loop-k.invariant.1.0 ∙ held_some c.loop-k.best c.if-best.true) in (e, c.loop-k.invariant.1.0 ∙ ap (λ (m : ℕ). first_good (near c.args.job.now m)) e)
+returns-then-best-clause-misses_value c = let e = fewest_found (data_wires c.args.job.now) (rows c.args.job.now) (problem_of c.args.job.now) c.loop-k.k (omega (arith, c.loop-k.auto)) c.loop-k.invariant.1.1 (choice c.loop-k.best) (sym c.loop-k.invariant.1.0 ∙ held_some c.loop-k.best c.if-best.true) in (e, c.loop-k.invariant.1.0 ∙ ap (λ (m : ℕ). first_good (near c.args.job.now m)) e)
 
 pub loop-k-preserved : goal.loop-k-preserved
 loop-k-preserved c =
     let h = c.loop-k-test.true in
     let missed : first_good (near c.args.job.now c.loop-k.k) ≡ none = sym c.loop-k.invariant.1.0 ∙ held_none c.loop-k.best c.if-best.false in
-    (c.at_most-best.ensures.len_bound, (c.at_most-best.ensures.result_value, λ j l. by_number c.args.job.now c.loop-k.k missed c.loop-k.invariant.1.1 j l (ℕ_discrete j c.loop-k.k)))
+    (c.at_most-next.ensures.len_bound, (c.at_most-next.ensures.result_value, λ j l. by_number c.args.job.now c.loop-k.k missed c.loop-k.invariant.1.1 j l (ℕ_discrete j c.loop-k.k)))
 
 -- all of a table's bits may be missed
 pub returns-clause-misses_value : goal.returns-clause-misses_value
 unfolding closest_choice
 returns-clause-misses_value c =
-    let job = c.args.job.now in
-    let k : c.loop-k.k ≡ 64 = let h = c.loop-k-test.false in omega arith in
-    let v = rw k at c.loop-k.invariant.1 in
-    let e = fewest_last (data_wires job) (rows job) (problem_of job) 64 (omega arith) v.1 (omega arith) in
-    (e, v.0 ∙ ap (λ (m : ℕ). first_good (near job m)) e)
+    let h = c.loop-k-test.false in
+    let e = fewest_last (data_wires c.args.job.now) (rows c.args.job.now) (problem_of c.args.job.now) c.loop-k.k (omega (arith, c.loop-k.auto)) c.loop-k.invariant.1.1 (omega (arith, c.loop-k.auto)) in
+    let last : c.loop-k.k ≡ 64 = omega (arith, c.loop-k.auto) in
+    (sym last ∙ e, c.loop-k.invariant.1.0 ∙ ap (λ (m : ℕ). first_good (near c.args.job.now m)) e)

@@ -19,7 +19,7 @@ loop-i-preserved c =
     let e = ap (entry_ok c.args.k c.args.w c.loop-i.least) c.entry_at-e.ensures in
     let ok = sym (c.entry_ok.ensures ∙ e) ∙ c.if-not-entry_ok.false in
     let g = ap (λ (x : Entry). x.gate) c.entry_at-e.ensures in
-    let above : c.wide-least.result + 1 ≡ suc (entry_at c.args.library.now c.loop-i.i).gate = omega (arith, c.wide-least.ensures, g) in
+    let above : c.from-least.result + 1 ≡ suc (entry_at c.args.library.now c.loop-i.i).gate = omega (arith, c.from-least.ensures, g) in
     ap (λ (n : ℕ). entries_ok c.args.k c.args.w n (drop (c.loop-i.i + 1) (entries_of c.args.library.now))) above
     ∙ sym (sound_turn c.args.library.now c.loop-i.i c.args.k c.args.w c.loop-i.least _ (omega arith) ok) ∙ c.loop-i.invariant
 

@@ -1,9 +1,6 @@
 -- The entries of a sound library are its gates with their prices and durations.
-use mathlib.Core.Path.{◌≡◌, ◌∙◌}
-use Rattle.outcomes.specs.Inner.{Lawfuls, Tabled}
-use Rattle.problem.specs.Entries.{entry_gates}
+use mathlib.Core.Path.{◌∙◌}
 use Rattle.library.specs.calls.Calls.{set_in}
-use Rattle.library.specs.entries.Library.{entries_of}
 use Rattle.library.proofs.calls.Sound.{sound_library}
 use Rattle.library.proofs.calls.Columns.{tabled, lawful_entries}
 use Rattle.library.proofs.first_good.Goals as goal
@@ -15,7 +12,7 @@ pub solve_among-requires-clause-lawfuls : goal.solve_among-requires-clause-lawfu
 solve_among-requires-clause-lawfuls c =
     let e = c.entries.ensures ∙ c.stock-stock.ensures in rw e (lawful_entries c.args.job.now c.args.library.now c.requires.library_value)
 
-pub returns-clause-result_value : goal.returns-clause-result_value
-returns-clause-result_value c =
+pub returns : goal.returns
+returns c =
     let e = c.entries.ensures ∙ c.stock-stock.ensures in
-    c.solve_among.ensures.result_value (set_in c.args.library.now) (rw e (tabled c.args.job.now c.args.library.now c.requires.library_value))
+    c.solve_among.ensures (set_in c.args.library.now) (rw e (tabled c.args.job.now c.args.library.now c.requires.library_value))

@@ -61,10 +61,8 @@ fn tell_untouched(rt: &impl Print, room: &[u8]) {
 
 // Says the 26 lines of the cells, and whether the figures differ from those published.
 fn tell_sheet(rt: &impl Print, cells: &[u8]) {
-    let mut i = 0;
-    while i < 26 {
+    for i in 0..26 {
         tell_line(rt, cells, i);
-        i += 1;
     }
     if !counts::agrees(cells) {
         say(rt, b"other figures were published\n");

@@ -188,9 +188,9 @@ fn print_part(rt: &impl Print, jobs: &[u8], i: usize)
 // Compares the jobs in two open files, and prints the difference and both circuits.
 fn print_change<F: Read + Drop>(rt: &impl Print, old_file: F, new_file: F) {
     let mut old = io::buffer();
-    let n = arguments::read_part(Some(old_file), compare::job_room(), &mut old);
+    let n = arguments::read_part(Some(old_file), files::job_room(), &mut old);
     let mut new = io::buffer();
-    let m = arguments::read_part(Some(new_file), compare::job_room(), &mut new);
+    let m = arguments::read_part(Some(new_file), files::job_room(), &mut new);
     let mut out = [0u8; 256];
     let size = compare::compare_text(&old[..n], &new[..m], &mut out);
     output::say(rt, &out[..size]);
@@ -199,7 +199,7 @@ fn print_change<F: Read + Drop>(rt: &impl Print, old_file: F, new_file: F) {
 // Searches for the closest circuit of the job in an open file, and prints it.
 fn print_closest(rt: &impl Print, job_file: impl Read + Drop) {
     let mut job = io::buffer();
-    let n = arguments::read_part(Some(job_file), closest::job_room(), &mut job);
+    let n = arguments::read_part(Some(job_file), files::job_room(), &mut job);
     let mut out = [0u8; 128];
     let size = closest::closest_text(&job[..n], &mut out);
     output::say(rt, &out[..size]);

@@ -40,18 +40,8 @@ fn at_most(job: &[u8], k: usize) -> Best
         ≡ first_good (missing_at_most (data_wires job.now) (rows job.now) k (problem_of job.now)) }
     ensures len_bound { result.len ≤ 12 }
 {
-    let own = outcomes::own_tables(job);
-    let count = own.count;
-    let gates = own.gates;
-    let prices = own.prices;
-    let durations = own.durations;
-    near_walk::run(
-        &gates[..count],
-        &prices[..count],
-        &durations[..count],
-        search::task_of(job),
-        k,
-    )
+    let own = outcomes::own_stock(job);
+    near_walk::run(own.entries(), search::task_of(job), k)
 }
 
 // The closest choice. The search is tried first; as long as nothing is found, one more missed bit is allowed at each turn. A table wants at

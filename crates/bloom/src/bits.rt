@@ -10,19 +10,13 @@ pub fn key(size: u32, hash: usize) -> usize
 }
 
 // Whether both bits of a place are set. A place past the end counts as set, so no bits at all rule nothing out. Two bits make false
-// positives rarer than one, and since both are in one word, one read gets them.
+// positives rarer than one, and since both are in one word, one read gets them. They are joined without a branch, for speed.
 pub fn lit(bits: &[u64], k: usize) -> bool
     ensures { result ≡ lit_at bits.now k }
 {
-    let i = k / 4096;
-    if i < bits.len() {
-        let word = bits[i];
-        logic::both(
-            (word >> (k / 64 % 64)) % 2 == 1,
-            (word >> (k % 64)) % 2 == 1,
-        )
-    } else {
-        true
+    match bits.get(k / 4096) {
+        Some(word) => ((word >> (k / 64 % 64)) % 2 == 1) & ((word >> (k % 64)) % 2 == 1),
+        None => true,
     }
 }
 
@@ -33,9 +27,8 @@ fn light(k: usize, bits: &mut [u64])
     ensures k_after { lit_at bits.new k ≡ true }
 {
     let i = k / 4096;
-    let one: u64 = 1;
     if i < bits.len() {
-        bits[i] = bits[i] | (one << (k / 64 % 64)) | (one << (k % 64));
+        bits[i] = bits[i] | (1 << (k / 64 % 64)) | (1 << (k % 64));
     }
 }
 

@@ -27,10 +27,8 @@ fn mark_less(size: u32, hash: usize, shares: [u32; 5], count: usize, but: usize,
     ensures grown { Grown bits.old bits.new }
     ensures by_index_2 { (w : ℕ) → w < count → (w ≡ but → ⊥) → lit_at bits.new (key_of size (hash - get_or shares w 0)) ≡ true }
 {
-    let mut w = 0;
-    while w < count {
+    for w in 0..count {
         mark_unless(but, w, size, hash - hash::word_at(shares, w), bits);
-        w += 1;
     }
 }
 
@@ -39,10 +37,7 @@ fn mark_less(size: u32, hash: usize, shares: [u32; 5], count: usize, but: usize,
 fn pairs(share: usize, a: usize, but: usize) -> usize
     ensures { result ≡ pick (eqb a but) 0 (pick (eqb share 0) 0 a) }
 {
-    if a == but {
-        return 0;
-    }
-    if share == 0 { 0 } else { a }
+    if a == but || share == 0 { 0 } else { a }
 }
 
 // Puts in the hash less each two shares, except pairs with wire `but` and pairs of which the later share is 0.
@@ -53,11 +48,9 @@ fn mark_pairs(size: u32, hash: usize, shares: [u32; 5], but: usize, bits: &mut [
     ensures by_index { (a : ℕ) → a < 5 → (b : ℕ) → b < pick (eqb a but) 0 (pick (eqb (get_or shares a 0) 0) 0 a) → (b ≡ but → ⊥)
         → lit_at bits.new (key_of size (hash - get_or shares a 0 - get_or shares b 0)) ≡ true }
 {
-    let mut a = 0;
-    while a < 5 {
+    for a in 0..5 {
         let s = hash::word_at(shares, a);
         mark_less(size, hash - s, shares, pairs(s, a, but), but, bits);
-        a += 1;
     }
 }
 

@@ -12,18 +12,15 @@ use crate::{bits, hash};
 pub fn beyond(bits: &[u64], reach: Reach, columns: [u16; 5]) -> bool
     ensures { result ≡ not (held bits.now reach.size (shares_of reach columns) 5 5) }
 {
-    let size = reach.size;
-    !bits::lit(
-        bits,
-        bits::key(size, hash::whole(hash::shares(reach, columns))),
-    )
+    let hash = hash::whole(hash::shares(reach, columns));
+    !bits::lit(bits, bits::key(reach.size, hash))
 }
 
 // Whether a gate's target is one of the open wires, which are given a bit each.
 pub fn open(wires: usize, g: u8) -> bool
     ensures { result ≡ false → bit_of (target_of g) wires ≡ 0 }
 {
-    (wires >> (logic::wide(g) / 32)) % 2 != 0
+    (wires >> (usize::from(g) / 32)) % 2 != 0
 }
 
 // Whether a state may be finished by at most `left` gates, as far as the filter says: yes if `left` is greater than the radius.
@@ -31,8 +28,5 @@ pub fn near_enough(bits: &[u64], reach: Reach, columns: [u16; 5], left: usize) -
     ensures { result ≡ false
         → (left ≤ reach.radius) × (held bits.now reach.size (shares_of reach columns) 5 5 ≡ false) }
 {
-    if reach.radius < left {
-        return true;
-    }
-    !beyond(bits, reach, columns)
+    reach.radius < left || !beyond(bits, reach, columns)
 }

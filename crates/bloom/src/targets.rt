@@ -34,18 +34,18 @@ fn any_of(a: bool, b: bool, c: bool, d: bool, e: bool) -> usize
     ensures by_index { (f : ℕ → Bool) → a ≡ f 0 → b ≡ f 1 → c ≡ f 2 → d ≡ f 3 → e ≡ f 4 → result ≡ bit (some_below 5 f) }
     ensures upper_bound { result < 2 }
 {
-    one(logic::either(e, logic::either(d, logic::either(c, logic::either(b, a)))))
+    usize::from(a | b | c | d | e)
 }
 
 // The wires, a bit each, for which the state without that wire is in the filter.
 fn open_alone(bits: &[u64], size: u32, shares: [u32; 5]) -> usize
     ensures { (w : ℕ) → w < 5 → bit_of w result ≡ bit (held bits.now size shares w w) }
 {
-    one(holds(bits, size, shares, 0, 0))
-        + 2 * one(holds(bits, size, shares, 1, 1))
-        + 4 * one(holds(bits, size, shares, 2, 2))
-        + 8 * one(holds(bits, size, shares, 3, 3))
-        + 16 * one(holds(bits, size, shares, 4, 4))
+    usize::from(holds(bits, size, shares, 0, 0))
+        + 2 * usize::from(holds(bits, size, shares, 1, 1))
+        + 4 * usize::from(holds(bits, size, shares, 2, 2))
+        + 8 * usize::from(holds(bits, size, shares, 3, 3))
+        + 16 * usize::from(holds(bits, size, shares, 4, 4))
 }
 
 // The wires, a bit each, for which the state without that wire, or without it and one other, is in the filter. Each pair is looked up once,
@@ -80,24 +80,14 @@ fn open_pairs(bits: &[u64], size: u32, shares: [u32; 5]) -> usize
 pub fn open_wires(bits: &[u64], reach: Reach, columns: [u16; 5], left: usize) -> usize
     ensures { (w : ℕ) → w < 5 → bit_of w result ≡ bit (open_on bits.now reach (shares_of reach columns) left w) }
 {
-    if bits.len() == 0 {
+    if bits.is_empty() {
         return 31;
     }
-    let size = reach.size;
-    let radius = reach.radius;
-    if left <= radius {
-        return open_alone(bits, size, hash::shares(reach, columns));
+    if left <= reach.radius {
+        open_alone(bits, reach.size, hash::shares(reach, columns))
+    } else if left - 1 <= reach.radius {
+        open_pairs(bits, reach.size, hash::shares(reach, columns))
+    } else {
+        31
     }
-    if left - 1 <= radius {
-        return open_pairs(bits, size, hash::shares(reach, columns));
-    }
-    31
-}
-
-// 1 for true, 0 for false.
-fn one(b: bool) -> usize
-    ensures value { result ≡ bit b }
-    ensures upper_bound { result < 2 }
-{
-    if b { 1 } else { 0 }
 }

@@ -1,9 +1,13 @@
 // How many gates a spare cost still buys, where some of them must be heavy: each gate costs at least `low`, and a heavy one at least
 // `extra` more.
-ghost use Rattle.std.specs.Prelude.{◌≡◌, ℕ, ◌+◌, ◌-◌, ◌*◌, ◌/◌, ◌≤◌, ◌<◌, ltb, length, get_or};
+ghost use Rattle.std.specs.Prelude.{◌≡◌, ◌+◌, ◌-◌, ◌*◌, ◌/◌, ◌≤◌, ◌<◌, ltb};
+ghost use Rattle.std.specs.List.{All};
 ghost use Rattle.logic.specs.Rules.{pick};
+ghost use Rattle.problem.specs.declared.Entry.{Entry};
 ghost use Rattle.bounds.specs.budget.Heavy.{heavy};
 ghost use Rattle.bounds.specs.budget.Afford.{buys};
+
+use problem::Entry;
 
 // How much greater `a` is than `b`; 0 if it is not.
 fn above(a: usize, b: usize) -> usize
@@ -27,40 +31,39 @@ pub fn heavy(g: u8) -> bool
     2 <= u8::count_ones(g % 32)
 }
 
-// The least of the prices; 255 if there are none.
-pub fn low(prices: &[u8]) -> usize
-    ensures by_index { (i : ℕ) → i < length prices.now → result ≤ get_or prices.now i 0 }
+// The least price of an entry; 255 if there are none.
+pub fn low(entries: &[Entry]) -> usize
+    ensures each { All (λ (e : Entry). result ≤ e.price) entries.now }
     ensures upper_bound { result ≤ 255 }
 {
     let mut least = 255;
-    let mut i = 0;
-    while i < prices.len() {
-        least = logic::lesser(least, logic::wide(prices[i]));
-        i += 1;
+    for entry in entries {
+        least = logic::lesser(least, logic::wide(entry.price));
     }
     least
 }
 
 // The price of a heavy gate; 255 for any other gate.
-fn heavy_price(g: u8, price: u8) -> usize
-    ensures value { result ≡ pick (heavy g) price 255 }
+fn heavy_price(entry: Entry) -> usize
+    ensures value { result ≡ pick (heavy entry.gate) entry.price 255 }
     ensures upper_bound { result ≤ 255 }
 {
-    if heavy(g) { logic::wide(price) } else { 255 }
+    if heavy(entry.gate) {
+        logic::wide(entry.price)
+    } else {
+        255
+    }
 }
 
 // How much more than the least price `low` each heavy gate costs at least.
-pub fn extra(gates: &[u8], prices: &[u8], low: usize) -> usize
-    requires { (i : ℕ) → i < length prices.now → low ≤ get_or prices.now i 0 }
-    ensures by_index { (i : ℕ) → i < length prices.now
-        → low + pick (heavy (get_or gates.now i 0)) result 0 ≤ get_or prices.now i 0 }
+pub fn extra(entries: &[Entry], low: usize) -> usize
+    requires { All (λ (e : Entry). low ≤ e.price) entries.now }
+    ensures each { All (λ (e : Entry). low + pick (heavy e.gate) result 0 ≤ e.price) entries.now }
     ensures upper_bound { result ≤ 255 }
 {
     let mut least = 255;
-    let mut i = 0;
-    while i < prices.len() {
-        least = logic::lesser(least, heavy_price(logic::at(gates, i), prices[i]));
-        i += 1;
+    for entry in entries {
+        least = logic::lesser(least, heavy_price(*entry));
     }
     above(least, low)
 }

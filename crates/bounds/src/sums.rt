@@ -1,7 +1,10 @@
 // Which costs a gate list can have, and with how many gates, as marks in a slice that the caller lends: place 13 * s + n stands for n
 // gates, at most 12, that cost s. The search need not try a cost that no list has.
 ghost use Rattle.std.specs.Prelude.{◌≡◌, true, false, ◌+◌, ◌-◌, ◌*◌, ◌≤◌, ◌<◌, length};
+ghost use Rattle.problem.specs.Entries.{entry_prices};
 ghost use Rattle.bounds.specs.sums.Sums.{put, put_from, Extends, Marked};
+
+use problem::Entry;
 
 // Marks the place `step` places after `i`, if the slice has it.
 fn put(i: usize, step: usize, sums: &mut [u8])
@@ -21,14 +24,12 @@ fn stride(price: u8) -> usize
 }
 
 // Marks each place that one more gate leads to from place `i`.
-fn put_from(prices: &[u8], i: usize, sums: &mut [u8])
+fn put_from(entries: &[Entry], i: usize, sums: &mut [u8])
     requires { i ≤ length sums.old }
-    ensures { sums.new ≡ put_from i prices.now sums.old }
+    ensures { sums.new ≡ put_from i (entry_prices entries.now) sums.old }
 {
-    let mut k = 0;
-    while k < prices.len() {
-        put(i, stride(prices[k]), sums);
-        k += 1;
+    for entry in entries {
+        put(i, stride(entry.price), sums);
     }
 }
 
@@ -43,18 +44,16 @@ fn extends(mark: u8, i: usize, limit: usize) -> bool
     i % 13 < limit
 }
 
-// Marks the cost and number of gates of every list of at most `limit` gates at these prices, as far as the slice goes.
-pub fn mark(prices: &[u8], limit: usize, sums: &mut [u8])
+// Marks the cost and number of gates of every list of at most `limit` gates at the prices of the entries, as far as the slice goes.
+pub fn mark(entries: &[Entry], limit: usize, sums: &mut [u8])
     requires { limit ≤ 12 }
     ensures sums_len_unchanged { length sums.new ≡ length sums.old }
-    ensures marked { Marked prices.now limit sums.new }
+    ensures marked { Marked (entry_prices entries.now) limit sums.new }
 {
     put(0, 0, sums);
-    let mut place = 0;
-    while place < sums.len() {
+    for place in 0..sums.len() {
         if extends(sums[place], place, limit) {
-            put_from(prices, place, sums);
+            put_from(entries, place, sums);
         }
-        place += 1;
     }
 }

@@ -14,7 +14,6 @@ use lib.ListN.{length, get_or, set, length-set, get_or-eq_default}
 use Rattle.logic.specs.Rules.{either, pick}
 use Rattle.logic.specs.Lists.{total, along}
 use Rattle.logic.proofs.Cells.{set_at}
-use Rattle.logic.proofs.Members.{spelled}
 use Rattle.logic.proofs.Chain.{either_cases}
 use Rattle.gate.specs.declared.Gate.{Gate}
 use Rattle.gate.specs.declared.Kind.{Kind}
@@ -201,11 +200,6 @@ until_greatest (t ∷ ts) (suc w) = omega (arith, until_greatest ts w)
 
 pub greatest_sooner : (ts us : List ℕ) → Sooner ts us → greatest ts ≤ greatest us
 greatest_sooner ts us s = greatest_until ts (greatest us) (λ w. le_trans (s w) (until_greatest us w))
-
-pub greatest_of_five : (ts : List ℕ) → length ts ≡ 5
-    → greatest ts ≡ max (get_or ts 0 0) (max (get_or ts 1 0) (max (get_or ts 2 0) (max (get_or ts 3 0) (max (get_or ts 4 0) 0))))
-unfolding greatest
-greatest_of_five ts h = ap greatest (sym (spelled ts 5 h))
 
 pub idle_until : Until 0 idle
 idle_until zero = omega arith

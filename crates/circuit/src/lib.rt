@@ -10,7 +10,7 @@ pub mod reversal;
 pub mod run;
 pub mod timing;
 
-ghost use Rattle.std.specs.Prelude.{◌≡◌, ◌≤◌, ◌+◌, length};
+ghost use Rattle.std.specs.Prelude.{◌≡◌, ℕ, ◌≤◌, ◌+◌, length};
 ghost use Rattle.circuit.specs.Measure.{weight_for, weight_of, cost};
 
 use gate::Kind;
@@ -36,25 +36,27 @@ fn weight_for(weights: Weights, kind: Kind) -> u8
     }
 }
 
-// The weight of a gate byte.
-pub fn weight(weights: Weights, b: u8) -> u8
-    ensures { result ≡ weight_of weights b }
-{
-    let g = gate::decode(b);
-    let kind = g.kind;
-    weight_for(weights, kind)
+// A price, or a duration, for each gate byte: by the kind of the gate, or from a list of gates.
+pub trait Rate: Copy {
+    ghost rate: { Self → ℕ → ℕ };
+
+    fn weight(self, b: u8) -> u8
+        ensures { result ≡ rate self b };
+}
+
+impl Rate for Weights {
+    ghost rate = { weight_of };
+
+    #[tactic(auto, unfolding(crate::specs::Measure::weight_of))]
+    fn weight(self, b: u8) -> u8 {
+        weight_for(self, gate::decode(b).kind)
+    }
 }
 
 // The cost of a list: the sum of the prices of its gates.
-pub fn cost(gates: &[u8], prices: Weights) -> u16
+pub fn cost<R: Rate>(gates: &[u8], prices: R) -> u16
     requires { length gates.now ≤ 256 }
-    ensures { result ≡ cost (weight_of prices) gates.now }
+    ensures { result ≡ cost (R.rate prices) gates.now }
 {
-    let mut sum: u16 = 0;
-    let mut i = 0;
-    while i < gates.len() {
-        sum += weight(prices, gates[i]) as u16;
-        i += 1;
-    }
-    sum
+    gates.iter().map(|&b| u16::from(prices.weight(b))).sum()
 }

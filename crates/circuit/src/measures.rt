@@ -1,9 +1,8 @@
 // All measures of a gate list in one struct.
 ghost use Rattle.std.specs.Prelude.{◌≡◌, ◌≤◌, length};
-ghost use Rattle.circuit.specs.Measure.{weight_of};
 ghost use Rattle.circuit.specs.measures.Measures.{measures_with, measures_of};
 
-use crate::{Weights, timing};
+use crate::{Rate, timing};
 
 // The number of gates, the cost and the depth, and the ready time of each of five wires, which is 0 for a wire that the circuit lacks.
 #[derive(Clone, Copy)]
@@ -23,8 +22,8 @@ pub fn measures_with(gates: u8, cost: u16, times: [u16; 5]) -> Measures
     ensures { result ≡ measures_with gates cost times }
 {
     Measures {
-        gates: gates,
-        cost: cost,
+        gates,
+        cost,
         depth: timing::latest(times),
         ready0: times[0],
         ready1: times[1],
@@ -35,9 +34,10 @@ pub fn measures_with(gates: u8, cost: u16, times: [u16; 5]) -> Measures
 }
 
 // The measures of a gate list at these prices and durations.
-pub fn measure_list(list: &[u8], prices: Weights, durations: Weights) -> Measures
+#[tactic(auto, unfolding(crate::specs::measures::Measures::measures_of))]
+pub fn measure_list<P: Rate, D: Rate>(list: &[u8], prices: P, durations: D) -> Measures
     requires { length list.now ≤ 255 }
-    ensures { result ≡ measures_of (weight_of prices) (weight_of durations) list.now }
+    ensures { result ≡ measures_of (P.rate prices) (D.rate durations) list.now }
 {
     let count = list.len() as u8;
     let cost = crate::cost(list, prices);

@@ -8,24 +8,12 @@ use gate::step;
 pub fn forwards(gates: &[u8], value: usize) -> usize
     ensures { result ≡ forwards gates.now value }
 {
-    let mut v = value;
-    let mut k = 0;
-    while k < gates.len() {
-        v = step::step(gates[k], v);
-        k += 1;
-    }
-    v
+    gates.iter().fold(value, |v, &b| step::step(b, v))
 }
 
 // The value after the list, with its last gate applied first.
 pub fn backwards(gates: &[u8], value: usize) -> usize
     ensures { result ≡ backwards gates.now value }
 {
-    let mut u = value;
-    let mut i = gates.len();
-    while 0 < i {
-        i -= 1;
-        u = step::step(gates[i], u);
-    }
-    u
+    gates.iter().rev().fold(value, |v, &b| step::step(b, v))
 }

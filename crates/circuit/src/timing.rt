@@ -1,16 +1,9 @@
 // Ready times: for each of five wires, the time from which it is free (document 01: its free time). The latest is the depth.
 ghost use Rattle.std.specs.Prelude.{◌≡◌, ℕ, ◌≤◌, ◌+◌, max, length, get_or};
-ghost use Rattle.circuit.specs.Measure.{weight_of, controls_ready, hold_controls, hold, ready_times, greatest};
+ghost use Rattle.circuit.specs.Measure.{controls_ready, hold_controls, hold, ready_times, greatest};
 
-use crate::Weights;
+use crate::Rate;
 use gate::{Gate, Kind};
-
-// The later of two times.
-fn later(a: u16, b: u16) -> u16
-    ensures { result ≡ max a b }
-{
-    if a < b { b } else { a }
-}
 
 // The time from which all controls of a gate are free.
 fn controls_ready(kind: Kind, times: [u16; 5]) -> u16
@@ -19,11 +12,10 @@ fn controls_ready(kind: Kind, times: [u16; 5]) -> u16
     match kind {
         Kind::Not => 0,
         Kind::Cnot(a) => logic::cell(times, a),
-        Kind::Toffoli(a, b) => later(logic::cell(times, a), logic::cell(times, b)),
-        Kind::Cccnot(a, b, c) => later(
-            later(logic::cell(times, a), logic::cell(times, b)),
-            logic::cell(times, c),
-        ),
+        Kind::Toffoli(a, b) => logic::cell(times, a).max(logic::cell(times, b)),
+        Kind::Cccnot(a, b, c) => logic::cell(times, a)
+            .max(logic::cell(times, b))
+            .max(logic::cell(times, c)),
     }
 }
 
@@ -44,37 +36,36 @@ fn hold_controls(kind: Kind, end: u16, times: [u16; 5]) -> [u16; 5]
 }
 
 // The ready times after one more gate: it starts when all its wires are free, and holds them for its duration.
+#[tactic(auto, unfolding(crate::specs::Measure::hold))]
 pub fn hold(g: Gate, duration: u8, times: [u16; 5]) -> [u16; 5]
     requires { (w : ℕ) → get_or times w 0 ≤ 65280 }
     ensures { result ≡ hold g duration times }
 {
     let t = g.target;
     let kind = g.kind;
-    let begin = later(logic::cell(times, t), controls_ready(kind, times));
-    let end = begin + duration as u16;
+    let begin = logic::cell(times, t).max(controls_ready(kind, times));
+    let end = begin + u16::from(duration);
     logic::with_cell(hold_controls(kind, end, times), t, end)
 }
 
 // The ready times of the five wires after the list.
-pub fn ready_times(gates: &[u8], durations: Weights) -> [u16; 5]
+pub fn ready_times<R: Rate>(gates: &[u8], durations: R) -> [u16; 5]
     requires { length gates.now ≤ 256 }
-    ensures { result ≡ ready_times (weight_of durations) gates.now }
+    ensures { result ≡ ready_times (R.rate durations) gates.now }
 {
     let mut times = [0u16; 5];
-    let mut i = 0;
-    while i < gates.len() {
-        let b = gates[i];
-        let next = hold(gate::decode(b), crate::weight(durations, b), times);
+    for &b in gates {
+        let next = hold(gate::decode(b), durations.weight(b), times);
         times = next;
-        i += 1;
     }
     times
 }
 
 // The latest of five ready times: the depth.
+#[tactic(auto, unfolding(crate::specs::Measure::greatest))]
 pub fn latest(times: [u16; 5]) -> u16
     ensures { result ≡ greatest times }
 {
-    let tail = later(times[2], later(times[3], later(times[4], 0)));
-    later(times[0], later(times[1], tail))
+    let [a, b, c, d, e] = times;
+    a.max(b.max(c.max(d.max(e))))
 }

@@ -22,12 +22,11 @@ fn output(cells: [u16; 4], i: usize) -> u16
 }
 
 // The rows in which a column differs from what is wanted of output `j`.
+#[tactic(auto, unfolding(crate::specs::Wanted::misses))]
 pub fn misses(t: Wanted, column: u16, j: usize) -> u16
     ensures { result ≡ misses t column j }
 {
-    let care = t.care;
-    let value = t.value;
-    (column ^ output(value, j)) & output(care, j)
+    (column ^ output(t.value, j)) & output(t.care, j)
 }
 
 // Whether output `j` has every wanted bit on the wire where layout `p` puts it.
@@ -35,22 +34,20 @@ fn fits(t: Wanted, columns: [u16; 5], p: u8, j: usize) -> bool
     requires { j < 4 }
     ensures { result ≡ fits t columns p j }
 {
-    let wire = (logic::wide(p) >> (6 - 2 * j)) % 4;
+    let wire = usize::from(p >> (6 - 2 * j)) % 4;
     misses(t, logic::cell(columns, wire), j) == 0
 }
 
 // Whether the columns have every wanted bit of the table under layout `p`.
+#[tactic(auto, unfolding(crate::specs::Wanted::met))]
 fn met(t: Wanted, columns: [u16; 5], p: u8) -> bool
     ensures { result ≡ met t columns p }
 {
-    let low = logic::both(
-        fits(t, columns, p, 1),
-        logic::both(fits(t, columns, p, 0), true),
-    );
-    logic::both(
-        fits(t, columns, p, 3),
-        logic::both(fits(t, columns, p, 2), low),
-    )
+    // `&` in place of `&&`: to compute all four and join them costs less than the branches
+    fits(t, columns, p, 3)
+        & fits(t, columns, p, 2)
+        & fits(t, columns, p, 1)
+        & fits(t, columns, p, 0)
 }
 
 // All rows of a table of `n` outputs, a bit each: 8 or 16.
@@ -61,6 +58,7 @@ pub fn all_rows(n: usize) -> u16
 }
 
 // The dirt: the rows in which the ancilla, with this column, is not 0.
+#[tactic(auto, unfolding(crate::specs::Wanted::dirt))]
 pub fn dirt(n: usize, column: u16) -> u16
     ensures { result ≡ dirt n column }
 {
@@ -78,5 +76,6 @@ pub fn tidy(n: usize, columns: [u16; 5]) -> bool
 pub fn reached(t: Wanted, n: usize, columns: [u16; 5], p: u8) -> bool
     ensures { result ≡ reached t n columns p }
 {
-    logic::both(met(t, columns, p), tidy(n, columns))
+    // `&` in place of `&&`, as in `met`
+    met(t, columns, p) & tidy(n, columns)
 }

@@ -5,16 +5,14 @@ ghost use Rattle.columns.specs.Wanted.{column_of, row_bit, columns_of, wanted_of
 use crate::Wanted;
 
 // Bit `j` of a row's care mask or of its value.
+#[tactic(auto, unfolding(crate::specs::Wanted::row_bit))]
 fn row_bit(care: bool, j: usize, row: u8) -> usize
     requires { j < 4 }
     ensures value { result ≡ row_bit care j row }
     ensures upper_bound { result < 2 }
 {
-    if care {
-        ((logic::wide(row) / 16) >> j) % 2
-    } else {
-        ((logic::wide(row) % 16) >> j) % 2
-    }
+    let bits = if care { row / 16 } else { row % 16 };
+    usize::from(bits >> j) % 2
 }
 
 // The care column or the value column of output `j`, built from the last row to the first.
@@ -24,15 +22,14 @@ fn column(care: bool, j: usize, rows: &[u8]) -> u16
     ensures { result ≡ column_of (row_bit care j) rows.now }
 {
     let mut bits = 0;
-    let mut x = rows.len();
-    while 0 < x {
-        x -= 1;
+    for x in (0..rows.len()).rev() {
         bits = row_bit(care, j, rows[x]) + 2 * bits;
     }
     bits as u16
 }
 
 // The care columns or the value columns of the four outputs.
+#[tactic(auto, unfolding(crate::specs::Wanted::columns_of))]
 fn four_columns(care: bool, rows: &[u8]) -> [u16; 4]
     requires { length rows.now ≤ 16 }
     ensures { result ≡ columns_of care rows.now }
@@ -46,6 +43,7 @@ fn four_columns(care: bool, rows: &[u8]) -> [u16; 4]
 }
 
 // What a table wants of its outputs.
+#[tactic(auto, unfolding(crate::specs::Wanted::wanted_of))]
 pub fn wanted_of(rows: &[u8]) -> Wanted
     requires { length rows.now ≤ 16 }
     ensures { result ≡ wanted_of rows.now }
@@ -57,6 +55,7 @@ pub fn wanted_of(rows: &[u8]) -> Wanted
 }
 
 // The columns before the first gate: row x starts with the value x.
+#[tactic(auto, unfolding(crate::specs::Wanted::start_columns))]
 pub fn start_columns() -> [u16; 5]
     ensures { result ≡ start_columns }
 {

@@ -1,4 +1,3 @@
-pub mod Cases
 pub mod Widen
 pub mod Published
 pub mod Undo

@@ -1,8 +1,8 @@
 -- The gates of a table are exactly the lawful bytes, and the longest table has 75 gates.
-use mathlib.Core.Path.{◌≡◌, refl, sym, ap, ap₂, ◌∙◌}
+use mathlib.Core.Path.{◌≡◌, refl, sym, ap₂, ◌∙◌}
 use mathlib.Core.Bool.{Bool, true}
 use mathlib.Core.List.{List, Memᴰ}
-use Prim.Native.Nat.{ℕ, ◌≤◌}
+use Prim.Native.Nat.{ℕ, zero, suc, ◌≤◌}
 use native.Mathlib.Omega.{arith}
 use borrow.Author.Tests.{leb-true}
 use lib.Dec.{leb}
@@ -13,7 +13,6 @@ use Rattle.logic.specs.Lists.{all_of, numbers_from, Among}
 use Rattle.logic.proofs.Below.{below}
 use Rattle.logic.proofs.Members.{all_member, all_members, among_all, keep_is, keep_has, numbers_has}
 use Rattle.gate.specs.Gates.{lawful, gates_for}
-use Rattle.gate.proofs.Cases.{two_three}
 use Rattle.gate.proofs.Widen.{widen, lawful_lt}
 
 module _ (k w : ℕ) where
@@ -48,9 +47,17 @@ all_fit_law = refl
 pub gates_most : (k w : ℕ) → k ≤ 3 → w ≤ 5 → length (gates_for k w) ≤ 75
 gates_most k w hk hw = leb-true (length (gates_for k w)) 75 (below 6 (fits k) (below 4 all_fit all_fit_law k (omega arith)) w (omega arith))
 
--- what is read off a table whose k and w are known
-pub table_at : (A : Type 0) (f : List ℕ → A) (k w k' w' : ℕ) (r : A) → k ≡ k' → w ≡ w' → r ≡ f (gates_for k' w') → r ≡ f (gates_for k w)
-table_at A f k w k' w' r hk hw e = e ∙ ap₂ (λ (j v : ℕ). f (gates_for j v)) (sym hk) (sym hw)
+-- a table whose k and w are known
+pub table_is : {l : List ℕ} (k w : ℕ) {k' w' : ℕ} → k ≡ k' → w ≡ w' → l ≡ gates_for k' w' → l ≡ gates_for k w
+table_is k w hk hw e = e ∙ ap₂ gates_for (sym hk) (sym hw)
+
+-- what holds for 2 and 3 holds for every number from 2 to 3
+two_three : (P : ℕ → Type 0) (k : ℕ) → 2 ≤ k → k ≤ 3 → P 2 → P 3 → P k
+two_three P zero l h p q = absurd (omega arith)
+two_three P (suc zero) l h p q = absurd (omega arith)
+two_three P (suc (suc zero)) l h p q = p
+two_three P (suc (suc (suc zero))) l h p q = q
+two_three P (suc (suc (suc (suc k)))) l h p q = absurd (omega arith)
 
 -- on three wires a gate has at most two controls
 two_on_three : gates_for 3 3 ≡ gates_for 2 3
@@ -59,6 +66,3 @@ two_on_three = refl
 
 pub on_three : (k : ℕ) → 2 ≤ k → k ≤ 3 → gates_for k 3 ≡ gates_for 2 3
 on_three k l h = two_three (λ (j : ℕ). gates_for j 3 ≡ gates_for 2 3) k l h refl two_on_three
-
-pub table_three : (A : Type 0) (f : List ℕ → A) (k w : ℕ) (r : A) → 2 ≤ k → k ≤ 3 → w ≡ 3 → r ≡ f (gates_for 2 3) → r ≡ f (gates_for k w)
-table_three A f k w r l h e q = q ∙ ap f (sym (ap (gates_for k) e ∙ on_three k l h))

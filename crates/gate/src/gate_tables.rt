@@ -19,7 +19,7 @@ const GATES5: [u8; 55] = [
     0x84, 0x85, 0x86, 0x88, 0x89, 0x8A, 0x8C,
 ];
 
-// With at most three controls. On three wires no gate can have three, so `GATES3` serves there too.
+// With at most three controls.
 const LARGER4: [u8; 32] = [
     0x00, 0x02, 0x04, 0x06, 0x08, 0x0A, 0x0C, 0x0E, 0x20, 0x21, 0x24, 0x25, 0x28, 0x29, 0x2C, 0x2D,
     0x40, 0x41, 0x42, 0x43, 0x48, 0x49, 0x4A, 0x4B, 0x60, 0x61, 0x62, 0x63, 0x64, 0x65, 0x66, 0x67,
@@ -33,40 +33,26 @@ const LARGER5: [u8; 75] = [
     0x84, 0x85, 0x86, 0x87, 0x88, 0x89, 0x8A, 0x8B, 0x8C, 0x8D, 0x8E,
 ];
 
+// The table for at most `k` controls on `w` wires. On three wires no gate can have three, so one table serves there.
+fn table(k: usize, w: usize) -> &'static [u8]
+    requires { ((2 ≤ k) × (k ≤ 3)) × ((3 ≤ w) × (w ≤ 5)) }
+    ensures { result.now ≡ gates_for k w }
+{
+    match (k, w) {
+        (_, 3) => &GATES3,
+        (2, 4) => &GATES4,
+        (_, 4) => &LARGER4,
+        (2, _) => &GATES5,
+        _ => &LARGER5,
+    }
+}
+
 // The number of lawful gates on `w` wires with at most `k` controls.
 pub fn gate_count(k: usize, w: usize) -> usize
     requires { ((2 ≤ k) × (k ≤ 3)) × ((3 ≤ w) × (w ≤ 5)) }
     ensures { result ≡ length (gates_for k w) }
 {
-    match w {
-        3 => 12,
-        4 => { if k == 2 { 28 } else { 32 } }
-        _ => { if k == 2 { 55 } else { 75 } }
-    }
-}
-
-// Entry `i` of the table for at most `k` controls on `w` wires, or 0 past its end.
-fn gate_at(k: usize, w: usize, i: usize) -> u8
-    requires { ((2 ≤ k) × (k ≤ 3)) × ((3 ≤ w) × (w ≤ 5)) }
-    ensures { result ≡ get_or (gates_for k w) i 0 }
-{
-    match w {
-        3 => logic::at(&GATES3, i),
-        4 => {
-            if k == 2 {
-                logic::at(&GATES4, i)
-            } else {
-                logic::at(&LARGER4, i)
-            }
-        }
-        _ => {
-            if k == 2 {
-                logic::at(&GATES5, i)
-            } else {
-                logic::at(&LARGER5, i)
-            }
-        }
-    }
+    table(k, w).len()
 }
 
 // The table for at most `k` controls on `w` wires, in an array that has room for the longest table.
@@ -74,12 +60,8 @@ pub fn gate_table(k: usize, w: usize) -> [u8; 75]
     requires { ((2 ≤ k) × (k ≤ 3)) × ((3 ≤ w) × (w ≤ 5)) }
     ensures { take (length (gates_for k w)) result ≡ gates_for k w }
 {
-    let count = gate_count(k, w);
-    let mut table = [0u8; 75];
-    let mut i = 0;
-    while i < count {
-        table[i] = gate_at(k, w, i);
-        i += 1;
-    }
-    table
+    let gates = table(k, w);
+    let mut room = [0u8; 75];
+    room[..gates.len()].copy_from_slice(gates);
+    room
 }

@@ -29,19 +29,14 @@ pub struct Gate {
 }
 
 // Whether the byte is a lawful gate on `w` wires with at most `k` controls.
+#[tactic(auto, unfolding(crate::specs::Gates::lawful))]
 pub fn lawful(k: u32, w: usize, b: u8) -> bool
     requires { w < 64 }
     ensures { result ≡ lawful k w b }
 {
-    let t = logic::wide(b) / 32;
-    let m = logic::wide(b) % 32;
-    logic::both(
-        t < w,
-        logic::both(
-            m < (1 << w),
-            logic::both((m >> t) % 2 == 0, u8::count_ones(b % 32) <= k),
-        ),
-    )
+    let t = usize::from(b / 32);
+    let m = b % 32;
+    t < w && usize::from(m) < 1 << w && (m >> t) % 2 == 0 && m.count_ones() <= k
 }
 
 // Whether every byte of a list is a lawful gate on `w` wires with at most `k` controls.
@@ -49,14 +44,7 @@ pub fn all_lawful(k: u32, w: usize, list: &[u8]) -> bool
     requires { w < 64 }
     ensures { result ≡ all_of (lawful k w) list.now }
 {
-    let mut i = 0;
-    while i < list.len() {
-        if !lawful(k, w, list[i]) {
-            return false;
-        }
-        i += 1;
-    }
-    true
+    list.iter().all(|&b| lawful(k, w, b))
 }
 
 // The lowest wire of a mask, or 8 if the mask is empty.
@@ -64,7 +52,7 @@ pub fn lowest(m: u8) -> usize
     ensures value { result ≡ lowest m }
     ensures upper_bound { result ≤ 8 }
 {
-    u8::trailing_zeros(m) as usize
+    m.trailing_zeros() as usize
 }
 
 // The second lowest wire of a mask, which of three is the middle one; 8 if there is none.
@@ -79,7 +67,7 @@ pub fn middle(m: u8) -> usize
 pub fn highest(m: u8) -> usize
     ensures { result ≡ highest m }
 {
-    let z = u8::leading_zeros(m) as usize;
+    let z = m.leading_zeros() as usize;
     if z < 8 { 7 - z } else { 0 }
 }
 
@@ -87,7 +75,7 @@ pub fn highest(m: u8) -> usize
 fn kind_of(m: u8) -> Kind
     ensures { result ≡ kind_for (ones m) m }
 {
-    match u8::count_ones(m) {
+    match m.count_ones() {
         0 => Kind::Not,
         1 => Kind::Cnot(lowest(m)),
         2 => Kind::Toffoli(lowest(m), highest(m)),
@@ -96,11 +84,12 @@ fn kind_of(m: u8) -> Kind
 }
 
 // The gate that a byte encodes.
+#[tactic(auto, unfolding(crate::specs::Gates::gate_of))]
 pub fn decode(b: u8) -> Gate
     ensures { result ≡ gate_of b }
 {
     Gate {
-        target: logic::wide(b) / 32,
+        target: usize::from(b) / 32,
         kind: kind_of(b % 32),
     }
 }

@@ -41,12 +41,13 @@ fn by_mask(v: usize, t: usize, m: usize) -> usize
 
 // The value after one gate, by the published formula of its kind: the target is exclusive-ored with 1, with the control, or with the
 // product of two or three controls. The last arm is for bytes of four or five controls; none of them is lawful.
+#[tactic(auto, using(crate::proofs::Published::by_kind), unfolding(crate::specs::Gates::step))]
 pub fn step(b: u8, v: usize) -> usize
     ensures { result ≡ step b v }
 {
-    let t = logic::wide(b) / 32;
+    let t = usize::from(b) / 32;
     let m = b % 32;
-    match u8::count_ones(m) {
+    match m.count_ones() {
         0 => add(v, t, 1),
         1 => {
             let a = crate::lowest(m);
@@ -63,6 +64,6 @@ pub fn step(b: u8, v: usize) -> usize
             let d = crate::highest(m);
             add(v, t, product(product(bit(v, a), bit(v, c)), bit(v, d)))
         }
-        _ => by_mask(v, t, logic::wide(m)),
+        _ => by_mask(v, t, usize::from(m)),
     }
 }

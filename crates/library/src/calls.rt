@@ -1,16 +1,18 @@
-// Verifying with a library, and what the search with a library is made of: its checks, the library's gates, prices and durations as tables,
+// Verifying with a library, and what the search with a library is made of: its checks, the library as a stock of gates,
 // and the measures of what is found.
-ghost use Rattle.std.specs.Prelude.{◌≡◌, true, ℕ, ◌<◌, ◌≤◌, ◌+◌, ◌*◌, ◌/◌, length, get_or, take};
+ghost use Rattle.std.specs.Prelude.{◌≡◌, true, ◌≤◌, length, take};
 ghost use Rattle.record.specs.JobRules.{job_code};
 ghost use Rattle.record.specs.circuit_rules.CircuitRules.{circuit_code};
 ghost use Rattle.circuit.specs.measures.Measures.{measures_of};
 ghost use Rattle.verify.specs.Calls.{measured_answer};
-ghost use Rattle.library.specs.entries.Library.{price_in, duration_in, library_sound};
+ghost use Rattle.library.specs.entries.Library.{entries_of, price_in, duration_in, library_sound};
 ghost use Rattle.library.specs.calls.Calls.{job_with_code, search_with_code, circuit_with_code, measures_in, rest_with_code, verify_with};
 
 use crate::{entries, entry_measures};
 use circuit::measures;
 use circuit::measures::Measures;
+use outcomes::Stock;
+use problem::Entry;
 use record::{circuit_fields, pair_codes};
 use verify::{Measured, rules};
 
@@ -76,18 +78,22 @@ pub fn verify_with(job: &[u8], library: &[u8], c: &[u8]) -> Measured
     Measured::Within(m)
 }
 
-// Byte `k` of each entry: its gate, price or duration. There is room for the longest library.
-pub fn column(library: &[u8], k: usize) -> [u8; 75]
-    requires { (length library.now ≤ 225) × (k < 3) }
-    ensures { (i : ℕ) → i < length library.now / 3 → get_or result i 0 ≡ get_or library.now (3 * i + k) 0 }
+// The library as a stock of gates. There is room for the longest library.
+pub fn stock(library: &[u8]) -> Stock
+    requires { length library.now ≤ 225 }
+    ensures { take result.count result.all ≡ entries_of library.now }
 {
-    let mut table = [0u8; 75];
-    let mut i = 0;
-    while i < library.len() / 3 {
-        table[i] = logic::at(library, 3 * i + k);
-        i += 1;
+    let none = Entry {
+        gate: 0,
+        price: 0,
+        duration: 0,
+    };
+    let count = library.len() / 3;
+    let mut all = [none; 75];
+    for i in 0..count {
+        all[i] = entries::entry_at(library, i);
     }
-    table
+    Stock { count, all }
 }
 
 // The measures of the first `len` gates of a path at the library's prices and durations.

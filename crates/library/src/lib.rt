@@ -7,7 +7,7 @@ pub mod entries; // a library's bytes as entries, and their checks
 pub mod entry_measures; // the cost and the ready times of a gate list by a library
 pub mod calls; // `verify_with`, and what `search_with` is made of
 
-ghost use Rattle.std.specs.Prelude.{◌≡◌, ◌≤◌, ◌/◌, length};
+ghost use Rattle.std.specs.Prelude.{◌≡◌, ◌≤◌, length};
 ghost use Rattle.record.specs.JobRules.{job_code};
 ghost use Rattle.problem.specs.order.View.{view};
 ghost use Rattle.problem.specs.Problems.{first_good};
@@ -26,10 +26,8 @@ fn first_good(job: &[u8], library: &[u8]) -> Best
     ensures result_value { view result ≡ first_good (problem_with job.now library.now) }
     ensures len_bound { result.len ≤ 12 }
 {
-    let gates = calls::column(library, 0);
-    let prices = calls::column(library, 1);
-    let durations = calls::column(library, 2);
-    search::solve_among(job, library.len() / 3, gates, prices, durations)
+    let stock = calls::stock(library);
+    search::solve_among(job, stock.entries())
 }
 
 // Searches among the gates of a library for the circuit that comes first by cost, then gates, depth, layout and gate bytes, and writes its

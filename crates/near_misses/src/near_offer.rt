@@ -21,11 +21,10 @@ use walk::{offer, skip};
 
 // The incumbent after the node's list was offered with one layout: the earlier of the two, where the list misses at most `k` wanted bits
 // and keeps the limits.
-fn try_layout(task: Task, s: Node, k: usize, p: u8, best: Best) -> Best
-    requires { (s.len ≤ 12) × (best.len ≤ 12) }
-    ensures result_value { (P : Problem) → Asks P task → At P s
+fn try_layout(task: Task, s: Node, k: usize, p: u8, best: Option<Best>) -> Option<Best>
+    requires { s.len ≤ 12 }
+    ensures { (P : Problem) → Asks P task → At P s
         → view result ≡ attempt (within (loosened task k P) task.cost_limit) (view best) (choice_of P (list_of s) p) }
-    ensures len_bound { result.len ≤ 12 }
 {
     let wanted = task.wanted;
     let columns = s.columns;
@@ -40,7 +39,6 @@ fn try_layout(task: Task, s: Node, k: usize, p: u8, best: Best) -> Best
     }
     let path = s.path;
     let mine = Best {
-        found: true,
         cost: s.cost,
         depth,
         layout: p,
@@ -51,32 +49,27 @@ fn try_layout(task: Task, s: Node, k: usize, p: u8, best: Best) -> Best
 }
 
 // The incumbent after the node's list was offered with each allowed layout.
-fn consider(task: Task, s: Node, k: usize, best: Best) -> Best
+fn consider(task: Task, s: Node, k: usize, best: Option<Best>) -> Option<Best>
     requires width { Width task.outputs }
-    requires len_bound { (s.len ≤ 12) × (best.len ≤ 12) }
-    ensures result_value { (P : Problem) → Asks P task → At P s
+    requires len_bound { s.len ≤ 12 }
+    ensures { (P : Problem) → Asks P task → At P s
         → view result ≡ improve (within (loosened task k P) task.cost_limit) (view best) (here (loosened task k P) (list_of s)) }
-    ensures len_bound_2 { result.len ≤ 12 }
 {
     let count = layouts::layout_count(task.outputs, task.free);
     let mut b = best;
-    let mut i = 0;
-    while i < count {
+    for i in 0..count {
         let p = layouts::layout_at(task.outputs, task.free, i);
-        let next = try_layout(task, s, k, p, b);
-        b = next;
-        i += 1;
+        b = try_layout(task, s, k, p, b);
     }
     b
 }
 
 // The incumbent after the node's list was offered with each allowed layout; none is tried where every layout misses more than `k` bits.
-pub fn consider_near(task: Task, s: Node, k: usize, best: Best) -> Best
+pub fn consider_near(task: Task, s: Node, k: usize, best: Option<Best>) -> Option<Best>
     requires width { Width task.outputs }
-    requires len_bound { (s.len ≤ 12) × (best.len ≤ 12) }
-    ensures result_value { (P : Problem) → Asks P task → At P s
+    requires len_bound { s.len ≤ 12 }
+    ensures { (P : Problem) → Asks P task → At P s
         → view result ≡ improve (within (loosened task k P) task.cost_limit) (view best) (here (loosened task k P) (list_of s)) }
-    ensures len_bound_2 { result.len ≤ 12 }
 {
     let wanted = task.wanted;
     let columns = s.columns;
@@ -94,7 +87,7 @@ pub fn hopeful(
     entry: Entry,
     rest: usize,
     k: usize,
-    best: Best,
+    best: Option<Best>,
 ) -> bool
     requires table_len { (length table.now ≡ 40) × (target_of entry.gate < 5) }
     requires fair { Fair task × (s.len < 12) }

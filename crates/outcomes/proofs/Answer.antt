@@ -2,7 +2,8 @@
 use mathlib.Core.Path.{◌≡◌, refl, ◌∙◌}
 use mathlib.Core.Bool.{Bool, true, false}
 use mathlib.Core.List.{List, ◌++◌}
-use mathlib.Core.Option.{none, some}
+use mathlib.Core.Option.{none}
+use Rattle.std.specs.Prelude.{Some, None}
 use Prim.Native.Nat.{ℕ}
 use native.Mathlib.Omega.{arith}
 use borrow.Author.Tests.{eqb-true, ne_eqb}
@@ -31,28 +32,17 @@ module _ (G : GateSet) (job : List ℕ) (code : ℕ) where
   unfolding search_over
   by_code n = rw (ne_eqb code 0 n)
 
+  -- nothing was found
+  pub none_is : code ≡ 0 → view None ≡ first_good (problem_over G job) → search_over G job code ≡ refused 14
+  unfolding search_over view
+  none_is kept first = rw (kept, ← first) refl
+
   -- what is told of the first good choice, with its measures, is the answer
-  pub told_is : code ≡ 0 → (b : Best) → view b ≡ first_good (problem_over G job)
+  pub told_is : code ≡ 0 → (b : Best) → view (Some b) ≡ first_good (problem_over G job)
       → (m : Measures) → m ≡ measures_of G.price G.duration (take b.len b.path)
-      → told_of job m (view b) ≡ search_over G job code
+      → told_of job m (choice b) ≡ search_over G job code
   unfolding search_over view choice
-  told_is kept b first m e = rw (kept, ← first, e) (by_found b.found)
-    where
-      by_found : (t : Bool) → told_of job (measures_of G.price G.duration (take b.len b.path)) (pick t (some (choice b)) none)
-          ≡ outcome_of G job (pick t (some (choice b)) none)
-      by_found true = refl
-      by_found false = refl
-
--- the ways out of telling
-module _ (job : List ℕ) (b : Best) (m : Measures) where
-  pub missing : b.found ≡ false → told_of job m (view b) ≡ refused 14
-  unfolding view
-  missing h = rw h
-
-  pub reached : (n a : ℕ) (mark : Bool) → n ≡ data_wires job → a ≡ ancillas job → mark ≡ longer job → b.found ≡ true
-      → told_of job m (view b) ≡ answered (record { bytes = circuit_bytes n a mark b.layout (take b.len b.path); measures = m })
-  unfolding view record_of choice
-  reached n a mark e k q h = rw (h, e, k, q)
+  told_is kept b first m e = rw (kept, ← first, e) refl
 
 -- a job that allows two controls is a shorter one
 two_shorter : (t : Bool) → pick {A = ℕ} t 3 2 ≡ 2 → t ≡ false

@@ -14,7 +14,7 @@ use Rattle.circuit.specs.declared.measures.Measures.{Measures}
 use Rattle.circuit.specs.measures.Measures.{measures_of}
 use Rattle.problem.specs.order.Choices.{Choice}
 use Rattle.problem.specs.Problems.{Problem, first_good}
-use Rattle.outcomes.specs.declared.Searched.{Searched}
+use Rattle.outcomes.specs.declared.Reported.{Reported}
 use Rattle.record.specs.pair_codes.Codes.{search_code}
 
 -- the gates that a list may be made of, with their prices and durations
@@ -72,12 +72,7 @@ search_over G job code = pick (eqb code 0) (outcome_of G job (first_good (proble
 unfoldable pub search_of : List ℕ → ℕ → Answer Found
 search_of job room = search_over (own_set job) job (search_code job room)
 
--- "its length (3 bytes and one a gate) and its three measures are returned"
-pub record Reported : Type 0 where
-  pub size : ℕ
-  pub measures : Measures
-
--- "A refusal returns its number alone"
+-- "its length (3 bytes and one a gate) and its three measures are returned"; "a refusal returns its number alone"
 abbrev pub reported : Answer Found → Answer Reported
 reported (refused code) = refused code
 reported (answered f) = answered (record { size = length f.bytes; measures = f.measures })
@@ -86,13 +81,3 @@ reported (answered f) = answered (record { size = length f.bytes; measures = f.m
 abbrev pub written : Answer Found → List ℕ → List ℕ
 written (refused code) answer = answer
 written (answered f) answer = in_front f.bytes answer
-
--- the code's enum as an answer: document 01's refusal code, or the length and the measures
-abbrev pub searched_answer : Searched → Answer Reported
-searched_answer (Searched.Refused code) = refused code
-searched_answer (Searched.Found size m) = answered (record { size = size; measures = m })
-
--- the length of the record in an answer, 0 for a refusal: a caller cuts its buffer there
-abbrev pub size_in : Searched → ℕ
-size_in (Searched.Refused code) = 0
-size_in (Searched.Found size m) = size

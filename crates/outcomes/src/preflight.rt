@@ -1,9 +1,10 @@
-// What is settled before the solver runs: whether parity rules out every circuit, and the price or duration of each gate.
-ghost use Rattle.std.specs.Prelude.{◌≡◌, ℕ, ◌≤◌, ◌<◌, length, get_or};
-ghost use Rattle.circuit.specs.Measure.{weight_of};
+// What is settled before the solver runs: whether parity rules out every circuit, and the price and duration of each gate.
+ghost use Rattle.std.specs.Prelude.{◌≡◌, ◌≤◌, length, take, map};
 ghost use Rattle.outcomes.specs.preflight.Odd.{always_none};
+ghost use Rattle.outcomes.specs.Inner.{weighed};
 
-use circuit::Weights;
+use circuit::{Rate, Weights};
+use problem::Entry;
 use record::job_fields;
 
 // Whether parity rules out every list of any length: the table is an odd permutation of four data wires, there is no ancilla, and no gate
@@ -19,16 +20,24 @@ pub fn always_none(job: &[u8]) -> bool
     logic::both(bare, odd)
 }
 
-// The weight (price or duration) of each of these gates, in their order. No job has more than 75 gates to choose from.
-pub fn weigh(weights: Weights, gates: &[u8]) -> [u8; 75]
+// The entries of these gates, in their order: each with its weight among the prices and among the durations. No job has more than 75 gates
+// to choose from.
+pub fn weigh(gates: &[u8], prices: Weights, durations: Weights) -> [Entry; 75]
     requires { length gates.now ≤ 75 }
-    ensures { (i : ℕ) → i < length gates.now → get_or result i 0 ≡ weight_of weights (get_or gates.now i 0) }
+    ensures { take (length gates.now) result ≡ map (weighed prices durations) gates.now }
 {
-    let mut table = [0u8; 75];
-    let mut i = 0;
-    while i < gates.len() {
-        table[i] = circuit::weight(weights, gates[i]);
-        i += 1;
+    let none = Entry {
+        gate: 0,
+        price: 0,
+        duration: 0,
+    };
+    let mut entries = [none; 75];
+    for (i, &gate) in gates.iter().enumerate() {
+        entries[i] = Entry {
+            gate,
+            price: prices.weight(gate),
+            duration: durations.weight(gate),
+        };
     }
-    table
+    entries
 }

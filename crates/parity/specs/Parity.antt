@@ -1,5 +1,5 @@
 -- When a table is a full permutation, and its parity, as document 01 defines them under 'Packed records'.
-use Rattle.std.specs.Prelude.{Bool, true, not, false, List, [], ◌∷◌, map, ℕ, ◌+◌, ◌-◌, ◌^◌, ◌%◌, ltb, eqb}
+use Rattle.std.specs.Prelude.{Bool, true, not, false, List, [], ◌∷◌, map, ℕ, ◌+◌, ◌-◌, ◌^◌, ◌%◌, ltb, eqb, Result, Ok, Err}
 use Rattle.logic.specs.Rules.{both, pick}
 use Rattle.logic.specs.Lists.{all_of, total}
 use Rattle.table.specs.Rows.{care_of, value_of}
@@ -7,7 +7,9 @@ use Rattle.record.specs.job_fields.Jobs.{data_wires, rows}
 use Rattle.logic.specs.Answers.{Answer, refused, answered, answer_of}
 use Rattle.record.specs.JobRules.{job_code}
 use Rattle.parity.specs.declared.TableParity.{TableParity}
-use Rattle.parity.specs.declared.TableParity.TheVariants.{Refused, Even, Odd, Neither}
+use Rattle.parity.specs.declared.TableParity.TheVariants.{Even, Odd, Neither}
+use Rattle.record.specs.declared.refusal.Refusal.{Refusal}
+use Rattle.record.specs.Answers.{number}
 
 -- the table's values, first row first
 abbrev pub values : List ℕ → List ℕ
@@ -69,9 +71,13 @@ table_parity job = pick (permutes job) (parity_by (inversions (values job))) nei
 unfoldable pub parity_of : List ℕ → Answer Parity
 parity_of job = answer_of (job_code job) (table_parity job)
 
+-- the parity that the code returns
+abbrev pub parity_is : TableParity → Parity
+parity_is Even = even
+parity_is Odd = odd
+parity_is Neither = neither
+
 -- document 01's number for a refusal, and the parity in each other case
-abbrev pub parity_answer : TableParity → Answer Parity
-parity_answer (Refused code) = refused code
-parity_answer Even = answered even
-parity_answer Odd = answered odd
-parity_answer Neither = answered neither
+abbrev pub parity_answer : Result TableParity Refusal → Answer Parity
+parity_answer (Ok p) = answered (parity_is p)
+parity_answer (Err r) = refused (number r)

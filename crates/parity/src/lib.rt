@@ -9,33 +9,31 @@ pub mod odd_tables;
 pub mod permuting;
 
 ghost use Rattle.std.specs.Prelude.{◌≡◌};
-ghost use Rattle.logic.specs.Answers.{answered};
-ghost use Rattle.parity.specs.Parity.{is_odd, table_parity, parity_of, parity_answer, permutes};
+ghost use Rattle.parity.specs.Parity.{is_odd, table_parity, parity_of, parity_is, parity_answer, permutes};
 
 use record::job_fields;
+use record::refusal::Refusal;
 
-// What `parity` answers: the code of the first rule that the job breaks, or the parity of its table.
-#[derive(Clone, Copy)]
+// The parity of a table: even or odd where the table is a full permutation, else neither.
+#[derive(Clone, Copy, Debug, PartialEq, Eq)]
 pub enum TableParity {
-    Refused(u8),
     Even,
     Odd,
     Neither,
 }
 
 // Whether the table is an odd permutation.
+#[tactic(auto, unfolding(crate::specs::Parity::table_parity))]
 pub fn odd_table(job: &[u8]) -> bool
     ensures { result ≡ is_odd (table_parity job.now) }
 {
-    logic::both(
-        permuting::permutes(job),
-        inverting::inversion_parity(job_fields::table(job)) == 1,
-    )
+    permuting::permutes(job) && inverting::inversion_parity(job_fields::table(job)) == 1
 }
 
 // The parity of a job's table, without the job's checks.
+#[tactic(auto, unfolding(crate::specs::Parity::table_parity))]
 fn table_parity(job: &[u8]) -> TableParity
-    ensures { parity_answer result ≡ answered (table_parity job.now) }
+    ensures { parity_is result ≡ table_parity job.now }
 {
     if !permuting::permutes(job) {
         return TableParity::Neither;
@@ -48,12 +46,10 @@ fn table_parity(job: &[u8]) -> TableParity
 }
 
 // Checks a job and finds the parity of its table.
-pub fn parity(job: &[u8]) -> TableParity
+#[tactic(auto, unfolding(crate::specs::Parity::parity_of))]
+pub fn parity(job: &[u8]) -> Result<TableParity, Refusal>
     ensures { parity_answer result ≡ parity_of job.now }
 {
-    let code = record::job_code(job);
-    if code != 0 {
-        return TableParity::Refused(code);
-    }
-    table_parity(job)
+    record::check_job(job)?;
+    Ok(table_parity(job))
 }

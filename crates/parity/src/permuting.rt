@@ -11,7 +11,7 @@ fn full_row(n: usize, row: u8) -> bool
     requires { n < 64 }
     ensures { result ≡ full_row n row }
 {
-    logic::wide(row) / 16 == (1 << n) - 1
+    usize::from(row) / 16 == (1 << n) - 1
 }
 
 // Whether every row cares about all `n` bits.
@@ -19,48 +19,33 @@ fn all_full(n: usize, rows: &[u8]) -> bool
     requires { n < 64 }
     ensures { result ≡ all_of (full_row n) rows.now }
 {
-    let mut i = 0;
-    while i < rows.len() {
-        if !full_row(n, rows[i]) {
-            return false;
-        }
-        i += 1;
-    }
-    true
+    rows.iter().all(|&row| full_row(n, row))
 }
 
 // Whether no row has the value `x`.
 fn absent(x: u8, rows: &[u8]) -> bool
     ensures { result ≡ all_of (differs x) (map value_of rows.now) }
 {
-    let mut i = 0;
-    while i < rows.len() {
-        if rows[i] % 16 == x {
-            return false;
-        }
-        i += 1;
-    }
-    true
+    rows.iter().all(|&row| row % 16 != x)
 }
 
 // Whether no two rows have the same value.
 fn distinct(rows: &[u8]) -> bool
     ensures { result ≡ distinct (map value_of rows.now) }
 {
-    let mut i = 0;
-    while i < rows.len() {
-        if !absent(rows[i] % 16, &rows[i + 1..]) {
+    for (i, &row) in rows.iter().enumerate() {
+        if !absent(row % 16, &rows[i + 1..]) {
             return false;
         }
-        i += 1;
     }
     true
 }
 
 // Whether a job's table is a full permutation.
+#[tactic(auto, unfolding(crate::specs::Parity::permutes, crate::specs::Parity::full))]
 pub fn permutes(job: &[u8]) -> bool
     ensures { result ≡ permutes job.now }
 {
     let rows = job_fields::table(job);
-    logic::both(all_full(job_fields::data_wires(job), rows), distinct(rows))
+    all_full(job_fields::data_wires(job), rows) && distinct(rows)
 }

@@ -3,6 +3,7 @@ use mathlib.Core.Path.{◌≡◌, refl, sym, ap, ◌∙◌}
 use mathlib.Core.Bool.{Bool, true, false}
 use mathlib.Core.List.{[], Memᴰ}
 use mathlib.Core.Option.{none, some}
+use Rattle.std.specs.Prelude.{Some}
 use Prim.Native.Nat.{ℕ, ◌+◌, ◌≤◌}
 use native.Mathlib.Omega.{arith}
 use borrow.Author.Tests.{leb-true, leb-false}
@@ -13,7 +14,7 @@ use Rattle.problem.specs.order.Choices.{Choice, under}
 use Rattle.problem.specs.order.View.{choice, view}
 use Rattle.problem.proofs.order.First.{found, nothing}
 use Rattle.problem.proofs.order.Order.{by_cost}
-use Rattle.problem.proofs.order.Held.{held_some, by_fewer}
+use Rattle.problem.proofs.order.Held.{by_fewer}
 use Rattle.problem.proofs.order.Deepening.{exhausted, settled}
 use Rattle.problem.specs.Problems.{Problem, here, choices, within, good, first_good}
 use Rattle.problem.specs.Inner.{looked_under, Past, Dearer, Shortest}
@@ -74,12 +75,11 @@ module _ (P : Problem) where
   past_below limit lower g k past = record { gates_least = λ a m h c. past.gates_least a m h (omega arith) }
 
   -- a search found something, with the fewest gates
-  pub shortest : (limit g : ℕ) (b : Best) → limit ≤ P.most_cost → g ≤ P.most_gates → b.found ≡ true
-      → view b ≡ looked_under P limit [] g none → Past P limit g → Shortest P limit (view b) b.len
-  unfolding choice
-  shortest limit g b hl hg f e past =
-      let s = held_some b f in
-      let o = fits P limit g hl hg (choice b) (sym s ∙ e) in
+  pub shortest : (limit g : ℕ) (b : Best) → limit ≤ P.most_cost → g ≤ P.most_gates
+      → view (Some b) ≡ looked_under P limit [] g none → Past P limit g → Shortest P limit (view (Some b)) b.len
+  unfolding view choice
+  shortest limit g b hl hg e past =
+      let o = fits P limit g hl hg (choice b) e in
       let n = past.gates_least (choice b) o.0.0 o.0.1 o.1.0 in
       let k = o.1.1 in
       let q : g ≡ b.len = omega arith in
@@ -92,18 +92,17 @@ module _ (P : Problem) where
       let i = listed P [] P.most_gates a m in
       omega (arith, past.gates_least a m h (within_parts P P.most_cost a h).1.0, gates_are P P.most_gates a i, i.short))
 
-  module _ (limit : ℕ) (b : Best) (hl : limit ≤ P.most_cost) (f : b.found ≡ true) (first : Shortest P limit (view b) b.len) where
+  module _ (limit : ℕ) (b : Best) (hl : limit ≤ P.most_cost) (first : Shortest P limit (view (Some b)) b.len) where
     -- what was found is the answer, once nothing good is cheaper
-    pub final : (c : ℕ) → Dearer P c → b.cost ≤ c → view b ≡ first_good P
-    unfolding choice
+    pub final : (c : ℕ) → Dearer P c → b.cost ≤ c → view (Some b) ≡ first_good P
+    unfolding view choice
     final c dear k =
-        let s = held_some b f in
-        s ∙ answer P limit b.len hl first.few (choice b) (sym s ∙ first.finds) (record { cost_least = λ a m h. omega (arith, dear.cost_least a m h) })
+        answer P limit b.len hl first.few (choice b) first.finds (record { cost_least = λ a m h. omega (arith, dear.cost_least a m h) })
 
     -- it costs no more than the limit
     pub found_cost : b.cost ≤ limit
-    unfolding choice
-    found_cost = (fits P limit b.len hl first.few (choice b) (sym (held_some b f) ∙ first.finds)).1.0
+    unfolding view choice
+    found_cost = (fits P limit b.len hl first.few (choice b) first.finds).1.0
 
   -- nothing good costs at most c
   pub dearer : (c : ℕ) → ((a : Choice) → Memᴰ a (choices P) → good P a ≡ true → a.cost ≤ c → ⊥) → Dearer P (c + 1)

@@ -4,6 +4,7 @@ use mathlib.Core.Path.{◌≡◌, refl, sym, ap, ◌∙◌}
 use mathlib.Core.Bool.{Bool, true, false}
 use mathlib.Core.List.{List, [], ◌∷◌, ◌++◌, append_assoc, Memᴰ}
 use mathlib.Core.Option.{Option}
+use Rattle.std.specs.Prelude.{Some}
 use Prim.Native.Nat.{ℕ, suc, ◌-◌, ◌≤◌, ◌<◌}
 use native.Mathlib.Omega.{arith}
 use borrow.Author.Tests.{leb-true, leb-false}
@@ -46,20 +47,20 @@ module _ (P : Problem) (limit : ℕ) (l : List ℕ) (k : ℕ) where
       skip_all x (λ e p a m short.
       attempt_not (within P limit) x (choice_of P (l ++ e) p) (deep P limit (choice_of P (l ++ e) p) (omega (arith, depth_front P.price P.duration l e))))
 
-  module _ (b : Best) (f : b.found ≡ true) where
+  module _ (b : Best) where
     -- a list that costs more than the best never comes before it
-    pub cut_cost : b.cost < cost P.price l → looked_under P limit l k (view b) ≡ view b
+    pub cut_cost : b.cost < cost P.price l → looked_under P limit l k (view (Some b)) ≡ view (Some b)
     unfolding choice_of
     cut_cost h =
-        skip_all (view b) (λ e p a m short.
-        dearer_left (within P limit) (choice_of P (l ++ e) p) b f (omega (arith, cost_front P.price P.duration l e)))
+        skip_all (view (Some b)) (λ e p a m short.
+        dearer_left (within P limit) (choice_of P (l ++ e) p) b (omega (arith, cost_front P.price P.duration l e)))
 
     -- nor does one that costs as much and is longer; one of equal length may still win by depth, layout or bytes
-    pub cut_gates : b.cost ≡ cost P.price l → b.len < length l → looked_under P limit l k (view b) ≡ view b
+    pub cut_gates : b.cost ≡ cost P.price l → b.len < length l → looked_under P limit l k (view (Some b)) ≡ view (Some b)
     unfolding choice_of
     cut_gates e g =
-        skip_all (view b) (λ d p a m short.
-        longer_left (within P limit) (choice_of P (l ++ d) p) b f (omega (arith, cost_front P.price P.duration l d))
+        skip_all (view (Some b)) (λ d p a m short.
+        longer_left (within P limit) (choice_of P (l ++ d) p) b (omega (arith, cost_front P.price P.duration l d))
         (omega (arith, gates_front P.price P.duration l d)))
 
 -- what cannot be finished within the gates that can still come leaves what is held

@@ -3,3 +3,4 @@ pub mod Demand
 pub mod Inner
 pub mod order
 pub mod pruned
+pub mod Entries

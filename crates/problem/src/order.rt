@@ -1,12 +1,22 @@
-// The incumbent: the best circuit that the search has found so far. specs/order defines which of two comes first, and `best` computes it.
+// A circuit that the search has found, and which of two comes first.
+ghost use Rattle.std.specs.Prelude.{◌≡◌, ◌≤◌, take};
 
-// A gate list with its layout and measures: the first `len` bytes of `path` are its gates. `found` is false until there is one.
+// A gate list with its layout and measures: the first `len` bytes of `path` are its gates.
 #[derive(Clone, Copy)]
 pub struct Best {
-    pub found: bool,
     pub cost: u16,
     pub depth: u16,
     pub layout: u8,
     pub len: usize,
     pub path: [u8; 12],
+    pub ghost short: { len ≤ 12 },
+}
+
+impl Best {
+    // The gates, first to last.
+    pub fn gates(&self) -> &[u8]
+        ensures { result.now ≡ take self.now.len self.now.path }
+    {
+        &self.path[..self.len]
+    }
 }

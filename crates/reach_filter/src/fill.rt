@@ -33,8 +33,8 @@ fn step(columns: [u16; 5], g: u8) -> [u16; 5]
 {
     let gate = gate::decode(g);
     let t = gate.target;
-    let kind = gate.kind;
-    logic::with_cell(columns, t, logic::cell(columns, t) ^ firing(columns, kind))
+    let fires = firing(columns, gate.kind);
+    logic::with_cell(columns, t, logic::cell(columns, t) ^ fires)
 }
 
 // Puts in every state within `k` gates of these columns. No state is skipped because it seems to be in already: that may be a collision, or
@@ -49,12 +49,9 @@ pub fn fill(gates: &[u8], reach: Reach, columns: [u16; 5], but: usize, k: usize,
     if k == 0 {
         return;
     }
-    let mut i = 0;
-    while i < gates.len() {
-        let g = gates[i];
+    for &g in gates {
         let next = step(columns, g);
-        fill(gates, reach, next, logic::wide(g) / 32, k - 1, bits);
-        i += 1;
+        fill(gates, reach, next, usize::from(g) / 32, k - 1, bits);
     }
 }
 
@@ -62,23 +59,12 @@ pub fn fill(gates: &[u8], reach: Reach, columns: [u16; 5], but: usize, k: usize,
 fn aim_at(value: [u16; 4], n: usize, w: usize) -> u16
     ensures { result ≡ pick (ltb w n) (get_or value w 0) 0 }
 {
-    if w < n {
-        if w < 4 { value[w] } else { 0 }
-    } else {
-        0
-    }
+    if w < n && w < 4 { value[w] } else { 0 }
 }
 
 // The columns that are wanted under the plain layout.
 pub fn aim_of(t: Wanted, n: usize) -> [u16; 5]
     ensures { result ≡ aim_of t n }
 {
-    let value = t.value;
-    [
-        aim_at(value, n, 0),
-        aim_at(value, n, 1),
-        aim_at(value, n, 2),
-        aim_at(value, n, 3),
-        aim_at(value, n, 4),
-    ]
+    std::array::from_fn(|w| aim_at(t.value, n, w))
 }

@@ -49,24 +49,23 @@ fn fill_wanted(gates: &[u8], t: Wanted, n: usize, reach: Reach, bits: &mut [u64]
     ensures { Near (Seen bits.new reach) gates.now (aim_of t n) reach.radius }
 {
     let columns = fill::aim_of(t, n);
-    let radius = reach.radius;
     insert::note(reach, columns, 9, bits);
-    fill::fill(gates, reach, columns, 9, radius, bits);
+    fill::fill(gates, reach, columns, 9, reach.radius, bits);
 }
 
 // `reach` if the filter is good; if not, a filter of no bits, which rules nothing out: all states have the same place in it.
+#[tactic(auto, unfolding(crate::specs::fill::Sieve::emptied))]
 fn kept(good: bool, reach: Reach) -> Reach
     ensures { result ≡ pick good reach (emptied reach) }
 {
     if good {
-        return reach;
-    }
-    let factors = reach.factors;
-    Reach {
-        radius: 0,
-        size: 0,
-        rows: reach.rows,
-        factors,
+        reach
+    } else {
+        Reach {
+            radius: 0,
+            size: 0,
+            ..reach
+        }
     }
 }
 
@@ -85,7 +84,7 @@ pub fn filter_for(
     ensures { (k : ℕ) → Sieve bits.new result gates.now k t n free }
 {
     let reach = reach_of(t, n, free, radius, size);
-    let good = logic::both(reach.rows != 0, symmetric::sound(gates, reach, n, free));
+    let good = reach.rows != 0 && symmetric::sound(gates, reach, n, free);
     let used = kept(good, reach);
     fill_wanted(gates, t, n, used, bits);
     used

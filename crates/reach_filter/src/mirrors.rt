@@ -13,7 +13,7 @@ pub fn wire_at(n: usize, p: u8, w: usize) -> usize
     ensures upper_bound { result < 5 }
 {
     if w < n {
-        (logic::wide(p) >> (6 - 2 * w)) % 4
+        (usize::from(p) >> (6 - 2 * w)) % 4
     } else {
         w
     }
@@ -25,7 +25,7 @@ fn same_control(n: usize, p: u8, g: u8, h: u8, w: usize) -> bool
     ensures { result ≡ same_control n p g h w }
 {
     let v = wire_at(n, p, w);
-    ((logic::wide(h) % 32) >> w) % 2 == ((logic::wide(g) % 32) >> v) % 2
+    ((usize::from(h) % 32) >> w) % 2 == ((usize::from(g) % 32) >> v) % 2
 }
 
 // Whether `h` mirrors `g` under layout `p`: `h` with its target and controls renamed by the layout is `g`. Running `h` and then moving the
@@ -34,20 +34,8 @@ fn mirrors(n: usize, p: u8, g: u8, h: u8) -> bool
     requires { Width n × (target_of h < 5) }
     ensures { result ≡ mirrors n p g h }
 {
-    if wire_at(n, p, logic::wide(h) / 32) != logic::wide(g) / 32 {
-        return false;
-    }
-    let low = logic::both(
-        same_control(n, p, g, h, 1),
-        logic::both(same_control(n, p, g, h, 0), true),
-    );
-    logic::both(
-        same_control(n, p, g, h, 4),
-        logic::both(
-            same_control(n, p, g, h, 3),
-            logic::both(same_control(n, p, g, h, 2), low),
-        ),
-    )
+    wire_at(n, p, usize::from(h) / 32) == usize::from(g) / 32
+        && (0..5).all(|w| same_control(n, p, g, h, w))
 }
 
 // Whether every gate is lawful on the data wires and the ancilla.
@@ -55,14 +43,7 @@ pub fn all_lawful(gates: &[u8], n: usize) -> bool
     requires { Width n }
     ensures { result ≡ true → (i : ℕ) → i < length gates.now → lawful 3 (n + 1) (get_or gates.now i 0) ≡ true }
 {
-    let mut i = 0;
-    while i < gates.len() {
-        if !gate::lawful(3, n + 1, gates[i]) {
-            return false;
-        }
-        i += 1;
-    }
-    true
+    gate::all_lawful(3, n + 1, gates)
 }
 
 // Whether some gate of the list mirrors `g`.
@@ -71,14 +52,7 @@ fn has_mirror(gates: &[u8], n: usize, p: u8, g: u8) -> bool
     requires by_index { (i : ℕ) → i < length gates.now → lawful 3 (n + 1) (get_or gates.now i 0) ≡ true }
     ensures { result ≡ true → (h : ℕ) × (Memᴰ h gates.now × (mirrors n p g h ≡ true)) }
 {
-    let mut i = 0;
-    while i < gates.len() {
-        if mirrors(n, p, g, gates[i]) {
-            return true;
-        }
-        i += 1;
-    }
-    false
+    gates.iter().any(|&h| mirrors(n, p, g, h))
 }
 
 // Whether the list is closed under layout `p`: every gate has a mirror in it.
@@ -88,12 +62,5 @@ pub fn all_mirrored(gates: &[u8], n: usize, p: u8) -> bool
     ensures { result ≡ true → (i : ℕ) → i < length gates.now
         → (h : ℕ) × (Memᴰ h gates.now × (mirrors n p (get_or gates.now i 0) h ≡ true)) }
 {
-    let mut i = 0;
-    while i < gates.len() {
-        if !has_mirror(gates, n, p, gates[i]) {
-            return false;
-        }
-        i += 1;
-    }
-    true
+    gates.iter().all(|&g| has_mirror(gates, n, p, g))
 }

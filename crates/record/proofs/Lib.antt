@@ -1,3 +1,4 @@
 pub mod Kept
 pub mod Long
 pub mod Never
+pub mod Refusals

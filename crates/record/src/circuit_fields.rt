@@ -6,10 +6,11 @@ ghost use Rattle.record.specs.circuit_fields.Circuits.{marked, controls_of, layo
 pub fn gate_list(c: &[u8]) -> &[u8]
     ensures { result.now ≡ gates c.now }
 {
-    if 3 <= c.len() { &c[3..] } else { &c[..0] }
+    c.get(3..).unwrap_or(&[])
 }
 
 // Whether a circuit is marked: it answers a longer job and may hold gates of three controls.
+#[tactic(auto, unfolding(crate::specs::circuit_fields::Circuits::marked))]
 pub fn marked(c: &[u8]) -> bool
     ensures { result ≡ marked c.now }
 {
@@ -24,6 +25,7 @@ pub fn controls_of(c: &[u8]) -> u32
 }
 
 // The final layout.
+#[tactic(auto, unfolding(crate::specs::circuit_fields::Circuits::layout_of))]
 pub fn layout_of(c: &[u8]) -> u8
     ensures { result ≡ layout_of c.now }
 {
@@ -31,8 +33,9 @@ pub fn layout_of(c: &[u8]) -> u8
 }
 
 // The gate count that byte 2 states.
+#[tactic(auto, unfolding(crate::specs::circuit_fields::Circuits::count_byte))]
 pub fn count_of(c: &[u8]) -> usize
     ensures { result ≡ count_byte c.now }
 {
-    logic::wide(logic::at(c, 2))
+    usize::from(logic::at(c, 2))
 }

@@ -1,24 +1,27 @@
-// The checks of a circuit record, in document 01's order with its refusal codes.
-ghost use Rattle.std.specs.Prelude.{◌≡◌, true, ◌≤◌, ◌<◌, length};
+// The checks of a circuit record, in document 01's order with its refusals.
+ghost use Rattle.std.specs.Prelude.{◌≡◌, ◌≤◌, length};
 ghost use Rattle.record.specs.circuit_rules.CircuitRules.{circuit_length_ok, shape_ok, count_ok, gates_ok, circuit_code};
+ghost use Rattle.record.specs.Answers.{code_of};
 
-use crate::{circuit_fields, job_fields};
+use crate::refusal::Refusal;
+use crate::{circuit_fields, job_fields, refusal};
 use table::layouts;
 
 // Rule 7: a circuit has 3 to 15 bytes.
+#[tactic(auto, unfolding(crate::specs::circuit_rules::CircuitRules::circuit_length_ok))]
 fn circuit_length_ok(c: &[u8]) -> bool
     ensures { result ≡ circuit_length_ok c.now }
 {
-    logic::both(3 <= c.len(), c.len() <= 15)
+    3 <= c.len() && c.len() <= 15
 }
 
 // Rule 8: three or four data wires, at most one ancilla, and zeros in byte 0 but for the mark.
+#[tactic(auto, unfolding(crate::specs::circuit_rules::CircuitRules::shape_ok))]
 fn shape_ok(c: &[u8]) -> bool
     ensures { result ≡ shape_ok c.now }
 {
     let n = job_fields::data_wires(c);
-    let rest = logic::both(job_fields::ancillas(c) <= 1, logic::at(c, 0) / 2 % 4 == 0);
-    logic::both(logic::either(n == 3, n == 4), rest)
+    (n == 3 || n == 4) && job_fields::ancillas(c) <= 1 && logic::at(c, 0) / 2 % 4 == 0
 }
 
 // Rule 21: every gate is lawful.
@@ -40,29 +43,17 @@ fn count_ok(c: &[u8]) -> bool
     circuit_fields::count_of(c) == c.len() - 3
 }
 
-// The code of the first rule that a circuit whose length and byte 0 are in order breaks, or 0: rules 9, 10 and 21 are left.
-fn circuit_rest(c: &[u8]) -> u8
-    requires c_value { circuit_length_ok c.now ≡ true }
-    requires c_value_2 { shape_ok c.now ≡ true }
-    ensures { result ≡ circuit_code c.now }
+// Checks a circuit record.
+#[tactic(auto, using(crate::proofs::circuit_rules::Sound::first_rules), unfolding(crate::specs::circuit_rules::CircuitRules::circuit_code))]
+pub fn check_circuit(c: &[u8]) -> Result<(), Refusal>
+    ensures { code_of result ≡ circuit_code c.now }
 {
-    let rest = logic::rule(gates_ok(c), 21, 0);
-    logic::rule(
+    refusal::kept(circuit_length_ok(c), Refusal::CircuitLength)?;
+    refusal::kept(shape_ok(c), Refusal::CircuitHead)?;
+    refusal::kept(
         layouts::layout_ok(job_fields::data_wires(c), circuit_fields::layout_of(c)),
-        9,
-        logic::rule(count_ok(c), 10, rest),
-    )
-}
-
-// The code of the first rule that a circuit breaks, or 0.
-pub fn circuit_code(c: &[u8]) -> u8
-    ensures { result ≡ circuit_code c.now }
-{
-    if !circuit_length_ok(c) {
-        return 7;
-    }
-    if !shape_ok(c) {
-        return 8;
-    }
-    circuit_rest(c)
+        Refusal::Layout,
+    )?;
+    refusal::kept(count_ok(c), Refusal::GateCount)?;
+    refusal::kept(gates_ok(c), Refusal::UnlawfulGate)
 }

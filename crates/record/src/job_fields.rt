@@ -8,10 +8,11 @@ ghost use Rattle.record.specs.job_fields.Jobs.{prices, durations, rows};
 use circuit::Weights;
 
 // Whether a job is a longer record, of 22 or 30 bytes: it has a price and a duration for gates of three controls.
+#[tactic(auto, unfolding(crate::specs::job_fields::Jobs::longer))]
 pub fn longer(job: &[u8]) -> bool
     ensures { result ≡ longer job.now }
 {
-    logic::either(job.len() == 22, job.len() == 30)
+    job.len() == 22 || job.len() == 30
 }
 
 // The greatest number of controls that the job allows.
@@ -22,41 +23,45 @@ pub fn most_controls(job: &[u8]) -> usize
 }
 
 // The number of data wires of a record, n.
+#[tactic(auto, unfolding(crate::specs::job_fields::Jobs::data_wires))]
 pub fn data_wires(bytes: &[u8]) -> usize
     ensures value { result ≡ data_wires bytes.now }
     ensures upper_bound { result < 8 }
 {
-    logic::wide(logic::at(bytes, 0)) / 32
+    usize::from(logic::at(bytes, 0)) / 32
 }
 
 // The number of ancillas of a record, m.
+#[tactic(auto, unfolding(crate::specs::job_fields::Jobs::ancillas))]
 pub fn ancillas(bytes: &[u8]) -> usize
     ensures { result ≡ ancillas bytes.now }
 {
-    logic::wide(logic::at(bytes, 0)) / 8 % 4
+    usize::from(logic::at(bytes, 0)) / 8 % 4
 }
 
 // All wires of a record, W = n + m.
+#[tactic(auto, unfolding(crate::specs::job_fields::Jobs::wires, crate::specs::job_fields::Jobs::ancillas))]
 pub fn wires(bytes: &[u8]) -> usize
     ensures value { result ≡ wires bytes.now }
     ensures upper_bound { result ≤ 10 }
 {
-    let head = logic::wide(logic::at(bytes, 0));
-    head / 32 + head / 8 % 4
+    data_wires(bytes) + ancillas(bytes)
 }
 
 // The greatest number of gates that the job allows.
+#[tactic(auto, unfolding(crate::specs::job_fields::Jobs::gate_limit))]
 pub fn gate_limit(job: &[u8]) -> usize
     ensures { result ≡ gate_limit job.now }
 {
-    logic::wide(logic::at(job, 1))
+    usize::from(logic::at(job, 1))
 }
 
 // 1 where the job leaves the final layout free, 0 where it asks for the plain one.
+#[tactic(auto, unfolding(crate::specs::job_fields::Jobs::free_layout))]
 pub fn free_layout(job: &[u8]) -> usize
     ensures { result ≡ free_layout job.now }
 {
-    logic::wide(logic::at(job, 0)) / 4 % 2
+    usize::from(logic::at(job, 0)) / 4 % 2
 }
 
 // The number in the two bytes from `i` on, high byte first.
@@ -64,10 +69,11 @@ fn word(bytes: &[u8], i: usize) -> usize
     requires { i < 256 }
     ensures { result ≡ word bytes.now i }
 {
-    256 * logic::wide(logic::at(bytes, i)) + logic::wide(logic::at(bytes, i + 1))
+    256 * usize::from(logic::at(bytes, i)) + usize::from(logic::at(bytes, i + 1))
 }
 
 // The greatest cost that the job allows.
+#[tactic(auto, unfolding(crate::specs::job_fields::Jobs::cost_limit))]
 pub fn cost_limit(job: &[u8]) -> usize
     ensures { result ≡ cost_limit job.now }
 {
@@ -75,6 +81,7 @@ pub fn cost_limit(job: &[u8]) -> usize
 }
 
 // The greatest depth that the job allows.
+#[tactic(auto, unfolding(crate::specs::job_fields::Jobs::depth_limit))]
 pub fn depth_limit(job: &[u8]) -> usize
     ensures { result ≡ depth_limit job.now }
 {
@@ -102,6 +109,7 @@ fn weights_at(four: bool, bytes: &[u8], i: usize) -> Weights
 }
 
 // The job's prices by kind of gate.
+#[tactic(auto, unfolding(crate::specs::job_fields::Jobs::prices))]
 pub fn prices(job: &[u8]) -> Weights
     ensures { result ≡ prices job.now }
 {
@@ -109,6 +117,7 @@ pub fn prices(job: &[u8]) -> Weights
 }
 
 // The job's durations by kind of gate.
+#[tactic(auto, unfolding(crate::specs::job_fields::Jobs::durations))]
 pub fn durations(job: &[u8]) -> Weights
     ensures { result ≡ durations job.now }
 {
@@ -130,10 +139,5 @@ fn rows_from(job: &[u8]) -> usize
 pub fn table(job: &[u8]) -> &[u8]
     ensures { result.now ≡ rows job.now }
 {
-    let from = rows_from(job);
-    if from <= job.len() {
-        &job[from..]
-    } else {
-        &job[..0]
-    }
+    job.get(rows_from(job)..).unwrap_or(&[])
 }

@@ -5,8 +5,8 @@ use mathlib.Core.Logic.{◌⊎◌, inl, inr, ⊎_elim}
 use mathlib.Core.List.{List, Memᴰ}
 use Prim.Native.Nat.{ℕ, ◌^◌, ◌≤◌, ◌<◌}
 use native.Mathlib.Omega.{arith}
-use lib.ListN.{length, get_or, take}
-use lib.Seq.{length-take-le, get_or-take}
+use lib.ListN.{length, get_or}
+use Rattle.std.proofs.lemmas.List.{get_or-map, length-map}
 use Rattle.logic.specs.Rules.{both, pick}
 use Rattle.logic.specs.Lists.{Among}
 use Rattle.logic.proofs.Members.{member_at, among_all}
@@ -20,11 +20,19 @@ use Rattle.record.proofs.Kept.{sound_job, wires_within}
 use Rattle.record.proofs.job_fields.Widths.{two_or_three}
 use Rattle.columns.specs.Wanted.{wanted_of, columns_of, start_columns, reached}
 use Rattle.columns.proofs.Agreement.{met_agrees, tidy_clean}
+use Rattle.problem.specs.declared.Entry.{Entry}
+use Rattle.problem.specs.Entries.{entry_gates}
 use Rattle.walk.specs.declared.node.Task.{Task}
-use Rattle.walk.specs.node.States.{Slices, Fair, Asks, Posed, Limited}
+use Rattle.walk.specs.node.States.{OnWires, Fair, Asks, Posed, Limited}
 use Rattle.outcomes.specs.Outcomes.{GateSet, problem_over}
 use Rattle.outcomes.specs.Inner.{Lawfuls, Tabled}
 use Rattle.search.specs.Inner.{task_of}
+
+entry_member : (entries : List Entry) (i : ℕ) (d : Entry) → i < length entries → Memᴰ (get_or entries i d).gate (entry_gates entries)
+entry_member entries i d h =
+    let gate : Entry → ℕ = λ e. e.gate in
+    let long = length-map entries gate in
+    subst (λ (g : ℕ). Memᴰ g (entry_gates entries)) (get_or-map gate entries i d 0 h) (member_at (entry_gates entries) i (omega arith))
 
 -- gates of a job have at most two or three controls
 two_three : (more : Bool) → (pick {A = ℕ} more 3 2 ≡ 2) ⊎ (pick {A = ℕ} more 3 2 ≡ 3)
@@ -54,16 +62,13 @@ module _ (job : List ℕ) (sound : job_code job ≡ 0) where
         let h = among_all (lawful 3 5) listing l (λ g m. known 3 g (two_or_three (longer job)).1 m) a in
         sym (ap₂ both (met_agrees (rows job) l rows_few h p) (tidy_clean l h (data_wires job) (sound_job job sound).width))
 
--- what is handed to the solver: the job's task, and three tables with room for more gates than there are, lent up to the last one
-pub record Handed (job : List ℕ) (task : Task) (table paid held : List ℕ) (count : ℕ) : Type 0 where
+-- what is handed to the solver: the job's task, and entries of gates that are lawful for it
+pub record Handed (job : List ℕ) (task : Task) (entries : List Entry) : Type 0 where
   pub sound : job_code job ≡ 0
-  pub kept : Lawfuls job (take count table)
+  pub kept : Lawfuls job (entry_gates entries)
   pub tasked : task ≡ task_of job
-  pub long : count ≤ length table
-  pub long_paid : count ≤ length paid
-  pub long_held : count ≤ length held
 
-module _ {job : List ℕ} {task : Task} {table paid held : List ℕ} {count : ℕ} (h : Handed job task table paid held count) where
+module _ {job : List ℕ} {task : Task} {entries : List Entry} (h : Handed job task entries) where
   fair : Fair (task_of job)
   unfolding task_of
   fair = record { wide = (sound_job job h.sound).width; few = two_three (longer job) }
@@ -72,20 +77,12 @@ module _ {job : List ℕ} {task : Task} {table paid held : List ℕ} {count : �
   unfolding task_of
   in_range = subst (λ (u : Task). Fair u × (u.gate_limit ≤ 12)) (sym h.tasked) (fair, (sound_job job h.sound).limit)
 
-  lent : length (take count table) ≡ count
-  lent = length-take-le count table h.long
+  pub on_wires : OnWires entries
+  on_wires k d l =
+      let m = entry_member entries k d l in
+      (parts (most_controls job) 5 _ (known job h.sound (entry_gates entries) h.kept (most_controls job) _ (omega arith) m)).target
 
-  pub sliced : Slices (take count table) (take count paid) (take count held)
-  sliced = record {
-    priced_all = length-take-le count paid h.long_paid ∙ sym lent;
-    timed_all = length-take-le count held h.long_held ∙ sym lent;
-    known = λ i k.
-        let g = get_or (take count table) i 0 in
-        let m = member_at (take count table) i k in
-        (parts (most_controls job) 5 g (known job h.sound (take count table) h.kept (most_controls job) g (omega arith) m)).target;
-  }
-
-  module _ {G : GateSet} (t : Tabled G table paid held count) where
+  module _ {G : GateSet} (t : Tabled G entries) where
     lawfuls : Lawfuls job G.gates
     lawfuls = subst (Lawfuls job) t.listed h.kept
 
@@ -106,17 +103,6 @@ module _ {job : List ℕ} {task : Task} {table paid held : List ℕ} {count : �
           kinds = λ g m. known job h.sound G.gates lawfuls (most_controls job) g (omega arith) m;
         })
 
-    cut : (weight : ℕ → ℕ) (weights : List ℕ) → ((i : ℕ) → i < count → get_or weights i 0 ≡ weight (get_or table i 0))
-        → (i : ℕ) → i < length (take count table) → get_or (take count weights) i 0 ≡ weight (get_or (take count table) i 0)
-    cut weight weights f i k =
-        let c : i < count = omega (arith, lent) in
-        get_or-take count weights i 0 c ∙ f i c ∙ ap weight (sym (get_or-take count table i 0 c))
-
-    pub posed : Posed (problem_over G job) task (take count table) (take count paid) (take count held)
+    pub posed : Posed (problem_over G job) task entries
     unfolding problem_over
-    posed = record {
-      asks = asked;
-      listed = t.listed;
-      priced = cut G.price paid t.priced;
-      timed = cut G.duration held t.timed;
-    }
+    posed = record { asks = asked; listed = t.listed; priced = t.priced; timed = t.timed }

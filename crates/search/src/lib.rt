@@ -4,8 +4,9 @@
 // and `task_of` is a job as the solver's task.
 #![tactic(auto)]
 
-ghost use Rattle.std.specs.Prelude.{◌≡◌, ◌≤◌, length, take};
+ghost use Rattle.std.specs.Prelude.{◌≡◌, ◌≤◌, length};
 ghost use Rattle.record.specs.JobRules.{job_code};
+ghost use Rattle.problem.specs.Entries.{entry_gates};
 ghost use Rattle.problem.specs.order.View.{view};
 ghost use Rattle.problem.specs.Problems.{first_good};
 ghost use Rattle.outcomes.specs.Outcomes.{GateSet, problem_over, problem_of, search_of, reported, written, searched_answer, size_in};
@@ -14,8 +15,8 @@ ghost use Rattle.search.specs.Inner.{task_of};
 
 use columns::table_columns;
 use outcomes::{Searched, preflight};
-use problem::best;
 use problem::order::Best;
+use problem::{Entry, best};
 use record::{call_codes, job_fields};
 use walk::node::Task;
 
@@ -35,29 +36,17 @@ pub fn task_of(job: &[u8]) -> Task
     }
 }
 
-// The first good choice of a well-formed job among the first `count` gates of a table, at their prices and durations.
-pub fn solve_among(
-    job: &[u8],
-    count: usize,
-    gates: [u8; 75],
-    prices: [u8; 75],
-    durations: [u8; 75],
-) -> Best
+// The first good choice of a well-formed job among the gates of these entries, at their prices and durations.
+pub fn solve_among(job: &[u8], entries: &[Entry]) -> Best
     requires job_value { job_code job.now ≡ 0 }
-    requires count_bound { count ≤ 75 }
-    requires lawfuls { Lawfuls job.now (take count gates) }
-    ensures result_value { (G : GateSet) → Tabled G gates prices durations count → view result ≡ first_good (problem_over G job.now) }
+    requires lawfuls { Lawfuls job.now (entry_gates entries.now) }
+    ensures result_value { (G : GateSet) → Tabled G entries.now → view result ≡ first_good (problem_over G job.now) }
     ensures len_bound { result.len ≤ 12 }
 {
     if preflight::always_none(job) {
         return best::nothing();
     }
-    solver::solve(
-        &gates[..count],
-        &prices[..count],
-        &durations[..count],
-        task_of(job),
-    )
+    solver::solve(entries, task_of(job))
 }
 
 // The first good choice of a well-formed job among its own gates.
@@ -66,11 +55,8 @@ pub fn first_good(job: &[u8]) -> Best
     ensures result_value { view result ≡ first_good (problem_of job.now) }
     ensures len_bound { result.len ≤ 12 }
 {
-    let own = outcomes::own_tables(job);
-    let gates = own.gates;
-    let prices = own.prices;
-    let durations = own.durations;
-    solve_among(job, own.count, gates, prices, durations)
+    let own = outcomes::own_stock(job);
+    solve_among(job, own.entries())
 }
 
 // Searches for the circuit that comes first by cost, then gates, depth, layout and gate bytes, and writes its record to the front of

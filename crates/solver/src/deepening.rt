@@ -1,15 +1,16 @@
 // Iterative deepening: one walk after another, with rising counts of gates, and with rising costs. The contracts speak of every problem
 // that the arguments pose.
-ghost use Rattle.std.specs.Prelude.{◌≡◌, true, ◌≤◌};
+ghost use Rattle.std.specs.Prelude.{◌≡◌, ◌≤◌, Some};
 ghost use Rattle.problem.specs.order.View.{view};
 ghost use Rattle.problem.specs.Problems.{Problem};
 ghost use Rattle.problem.specs.Inner.{Past, Dearer, Shortest};
+ghost use Rattle.problem.specs.Entries.{entry_prices};
 ghost use Rattle.bounds.specs.sums.Sums.{Marked};
 ghost use Rattle.walk.specs.node.States.{Supplied, Ready, Given, Limited};
 ghost use Rattle.solver.specs.deepening.Deepening.{Counted, Deepened, Priced, Cheapened, limited_to};
 
 use bounds::budget;
-use problem::best;
+use problem::Entry;
 use problem::order::Best;
 use walk::node::{Setup, Task};
 
@@ -30,48 +31,33 @@ pub struct Costs {
 // Deepening on gates: a walk for each count, until one finds something. Sums are given only where nothing good costs less than the task's
 // limit on cost.
 pub fn fewest(
-    gates: &[u8],
-    prices: &[u8],
-    durations: &[u8],
+    entries: &[Entry],
     setup: Setup,
     counts: Counts,
     bits: &[u64],
     sums: &[u8],
-) -> Best
-    requires supplied { Supplied gates.now prices.now durations.now setup.task bits.now setup.reach }
+) -> Option<Best>
+    requires supplied { Supplied entries.now setup.task bits.now setup.reach }
     requires ready { Ready setup.task setup.least × ((counts.from ≤ counts.most) × (counts.most ≤ 12)) }
-    ensures deepened { (P : Problem) → Given P setup gates.now prices.now durations.now
+    ensures { (P : Problem) → Given P setup entries.now
         → setup.task.cost_limit ≤ P.most_cost → counts.most ≤ P.most_gates → Past P setup.task.cost_limit counts.from
         → Counted P setup.task.cost_limit sums.now → Deepened P setup.task.cost_limit counts.most result }
-    ensures len_bound { result.len ≤ 12 }
 {
-    let mut g = counts.from;
-    while g < counts.most {
-        let b = walk::run(gates, prices, durations, setup, g, bits, sums);
-        if b.found {
-            return b;
+    for g in counts.from..counts.most {
+        if let Some(b) = walk::run(entries, setup, g, bits, sums) {
+            return Some(b);
         }
-        g += 1;
     }
-    walk::run(gates, prices, durations, setup, g, bits, sums)
+    walk::run(entries, setup, counts.most, bits, sums)
 }
 
 // The search at one cost, the task's limit: deepening on gates from `from` up to as many as the cost buys.
-fn at_cost(
-    gates: &[u8],
-    prices: &[u8],
-    durations: &[u8],
-    setup: Setup,
-    from: usize,
-    bits: &[u64],
-    sums: &[u8],
-) -> Best
-    requires supplied { Supplied gates.now prices.now durations.now setup.task bits.now setup.reach }
+fn at_cost(entries: &[Entry], setup: Setup, from: usize, bits: &[u64], sums: &[u8]) -> Option<Best>
+    requires supplied { Supplied entries.now setup.task bits.now setup.reach }
     requires ready { Ready setup.task setup.least × (setup.task.gate_limit ≤ 12) }
-    ensures priced { (P : Problem) → Given P setup gates.now prices.now durations.now
+    ensures { (P : Problem) → Given P setup entries.now
         → setup.task.cost_limit ≤ P.most_cost → setup.task.gate_limit ≡ P.most_gates → Past P setup.task.cost_limit from
         → Counted P setup.task.cost_limit sums.now → Priced P setup.task.cost_limit result }
-    ensures len_bound { result.len ≤ 12 }
 {
     let most = budget::buys(
         setup.least.low,
@@ -81,10 +67,10 @@ fn at_cost(
         setup.task.gate_limit,
     );
     if most < from {
-        return best::nothing();
+        return None;
     }
     let counts = Counts { from, most };
-    fewest(gates, prices, durations, setup, counts, bits, sums)
+    fewest(entries, setup, counts, bits, sums)
 }
 
 // The task with another limit on cost.
@@ -106,39 +92,33 @@ fn limited_to(task: Task, limit: usize) -> Task
 // Deepening on cost: a search at each cost, rising, until one finds something. At a cost that is no sum of prices each walk ends at its
 // root.
 pub fn cheaper(
-    gates: &[u8],
-    prices: &[u8],
-    durations: &[u8],
+    entries: &[Entry],
     setup: Setup,
     held: Best,
     costs: Costs,
     bits: &[u64],
     sums: &[u8],
-) -> Best
-    requires supplied { Supplied gates.now prices.now durations.now setup.task bits.now setup.reach }
+) -> Option<Best>
+    requires supplied { Supplied entries.now setup.task bits.now setup.reach }
     requires ready { Ready setup.task setup.least × (setup.task.gate_limit ≤ 12) }
-    requires marked { Marked prices.now setup.task.gate_limit sums.now }
-    requires found_value { (held.found ≡ true) × ((costs.from ≤ costs.to) × (costs.to ≤ held.cost)) }
-    ensures cheapened { (P : Problem) → Given P setup gates.now prices.now durations.now
-        → Limited P setup.task → Shortest P P.most_cost (view held) held.len → Dearer P costs.from
+    requires marked { Marked (entry_prices entries.now) setup.task.gate_limit sums.now }
+    requires costs_rise { (costs.from ≤ costs.to) × (costs.to ≤ held.cost) }
+    ensures { (P : Problem) → Given P setup entries.now
+        → Limited P setup.task → Shortest P P.most_cost (view (Some held)) held.len → Dearer P costs.from
         → Cheapened P costs.to result }
-    ensures len_bound { result.len ≤ 12 }
 {
     let task = setup.task;
     let least = setup.least;
     let reach = setup.reach;
-    let mut c = costs.from;
-    while c < costs.to {
+    for c in costs.from..costs.to {
         let at = Setup {
             task: limited_to(task, c),
             least,
             reach,
         };
-        let b = at_cost(gates, prices, durations, at, held.len, bits, sums);
-        if b.found {
-            return b;
+        if let Some(b) = at_cost(entries, at, held.len, bits, sums) {
+            return Some(b);
         }
-        c += 1;
     }
-    best::nothing()
+    None
 }

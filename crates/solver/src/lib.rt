@@ -1,6 +1,6 @@
 // The solver: the search for the first good choice of a problem, by iterative deepening. It looks for a feasible circuit of the fewest
 // gates, the incumbent (`held`), and then for a cheaper one. Each walk prunes by a filter where that is worth the time to fill it. The
-// solver takes slices of gates, prices and durations, and knows no job; its contracts speak of every problem that the arguments pose.
+// solver takes a list of entries, each a gate with its price and duration, and knows no job; its contracts speak of every problem that the arguments pose.
 //
 // prospects: the lower bounds, and which filter is worth its time. deepening: rising counts of gates, and rising costs. cheaper: the search
 // below the incumbent's cost.
@@ -10,211 +10,133 @@ pub mod cheaper;
 pub mod deepening;
 pub mod prospects;
 
-ghost use Rattle.std.specs.Prelude.{◌≡◌, true, false, ℕ, ◌+◌, ◌-◌, ◌≤◌, ◌<◌};
+ghost use Rattle.std.specs.Prelude.{◌≡◌, ℕ, ◌+◌, ◌-◌, ◌≤◌, ◌<◌};
 ghost use Rattle.std.proofs.Math.Option.{none};
 ghost use Rattle.problem.specs.order.View.{view};
 ghost use Rattle.problem.specs.Problems.{Problem, first_good};
 ghost use Rattle.walk.specs.declared.node.Task.{Task};
-ghost use Rattle.walk.specs.node.States.{Slices, Supplied, Fair, Ready, Posed, Limited, Bounded, Given};
+ghost use Rattle.walk.specs.node.States.{OnWires, Supplied, Fair, Ready, Posed, Limited, Bounded, Given};
 ghost use Rattle.solver.specs.deepening.Deepening.{Deepened};
 ghost use Rattle.solver.specs.States.{Settled};
 
 use crate::deepening::Counts;
-use problem::best;
+use problem::Entry;
 use problem::order::Best;
-use reach_filter::filter;
 use walk::node::{Least, Setup, Task};
 
-// What a search has come to: it is done, with the answer, or it has to go on to more gates.
-#[derive(Clone, Copy)]
-pub struct Outcome {
-    pub done: bool,
-    pub best: Best,
-}
-
-// The answer, where there is an incumbent; without one the search is not done.
-fn settle(
-    gates: &[u8],
-    prices: &[u8],
-    durations: &[u8],
-    setup: Setup,
-    held: Best,
-    bits: &[u64],
-) -> Outcome
-    requires supplied { Supplied gates.now prices.now durations.now setup.task bits.now setup.reach }
+// The first good choice, where there is an incumbent; without one the search has to go on to more gates.
+fn settle(entries: &[Entry], setup: Setup, held: Option<Best>, bits: &[u64]) -> Option<Best>
+    requires supplied { Supplied entries.now setup.task bits.now setup.reach }
     requires ready { Ready setup.task setup.least × (setup.task.gate_limit ≤ 12) }
-    requires len_bound { held.len ≤ 12 }
-    ensures settled { (P : Problem) (most : ℕ) → Given P setup gates.now prices.now durations.now
+    ensures { (P : Problem) (most : ℕ) → Given P setup entries.now
         → Limited P setup.task → Deepened P P.most_cost most held → Settled P most result }
-    ensures len_bound_2 { result.best.len ≤ 12 }
 {
-    if !held.found {
-        return Outcome {
-            done: false,
-            best: held,
-        };
-    }
-    let best = cheaper::cheapest_from(gates, prices, durations, setup, held, 0, bits);
-    Outcome { done: true, best }
+    Some(cheaper::cheapest_from(entries, setup, held?, 0, bits))
 }
 
 // The incumbent, or, where there is none, a list of the fewest gates, among these counts.
 fn go_on(
-    gates: &[u8],
-    prices: &[u8],
-    durations: &[u8],
+    entries: &[Entry],
     setup: Setup,
-    held: Best,
+    held: Option<Best>,
     counts: Counts,
     bits: &[u64],
-) -> Best
-    requires supplied { Supplied gates.now prices.now durations.now setup.task bits.now setup.reach }
+) -> Option<Best>
+    requires supplied { Supplied entries.now setup.task bits.now setup.reach }
     requires ready { Ready setup.task setup.least × ((counts.from ≤ counts.most) × (counts.most ≤ 12)) }
-    requires le_from { (1 ≤ counts.from) × (held.len ≤ 12) }
-    ensures deepened { (P : Problem) → Given P setup gates.now prices.now durations.now
+    requires le_from { 1 ≤ counts.from }
+    ensures { (P : Problem) → Given P setup entries.now
         → Limited P setup.task → counts.most ≤ P.most_gates → Deepened P P.most_cost (counts.from - 1) held
         → Deepened P P.most_cost counts.most result }
-    ensures len_bound { result.len ≤ 12 }
 {
-    if held.found {
-        return held;
+    if let Some(found) = held {
+        return Some(found);
     }
-    let none = [0u8; 0];
-    deepening::fewest(gates, prices, durations, setup, counts, bits, &none)
+    deepening::fewest(entries, setup, counts, bits, &[])
 }
 
 // One stage: a filter is filled, and the search goes on with it, for the fewest gates among these counts where there is no incumbent yet,
 // and then for a cheaper one.
 fn stage(
-    gates: &[u8],
-    prices: &[u8],
-    durations: &[u8],
+    entries: &[Entry],
     task: Task,
     least: Least,
-    held: Best,
+    held: Option<Best>,
     counts: Counts,
     bits: &mut [u64],
-) -> Outcome
-    requires slices { Slices gates.now prices.now durations.now }
+) -> Option<Best>
+    requires known { OnWires entries.now }
     requires ready { Ready task least × (task.gate_limit ≤ 12) }
     requires le_from { (1 ≤ counts.from) × ((counts.from ≤ counts.most) × (counts.most ≤ 12)) }
-    requires len_bound { held.len ≤ 12 }
-    ensures settled { (P : Problem) → Posed P task gates.now prices.now durations.now → Bounded P least
+    ensures { (P : Problem) → Posed P task entries.now → Bounded P least
         → Limited P task → counts.most ≤ P.most_gates → Deepened P P.most_cost (counts.from - 1) held → Settled P counts.most result }
-    ensures len_bound_2 { result.best.len ≤ 12 }
 {
-    let wanted = task.wanted;
-    let radius = prospects::radius_for(gates.len(), counts.most);
-    let reach = filter::filter_for(
-        gates,
-        wanted,
-        task.outputs,
-        task.free,
-        radius,
-        prospects::size_for(gates.len(), radius),
-        bits,
-    );
+    let radius = prospects::radius_for(entries.len(), counts.most);
+    let reach = prospects::filled(entries, task, radius, bits);
     let setup = Setup { task, least, reach };
-    let found = go_on(gates, prices, durations, setup, held, counts, bits);
-    if !found.found {
-        return Outcome {
-            done: false,
-            best: found,
-        };
-    }
-    let best = cheaper::cheapest(gates, prices, durations, setup, found, bits);
-    Outcome { done: true, best }
+    let found = go_on(entries, setup, held, counts, bits)?;
+    Some(cheaper::cheapest(entries, setup, found, bits))
 }
 
 // Two stages, of a narrower and a wider filter: the wider one is filled only where the search has to go on to more gates.
 fn stages(
-    gates: &[u8],
-    prices: &[u8],
-    durations: &[u8],
+    entries: &[Entry],
     task: Task,
     least: Least,
-    held: Best,
+    held: Option<Best>,
     from: usize,
     bits: &mut [u64; 786432],
-) -> Outcome
-    requires slices { Slices gates.now prices.now durations.now }
+) -> Option<Best>
+    requires known { OnWires entries.now }
     requires ready { Ready task least × ((from ≤ task.gate_limit) × (task.gate_limit ≤ 12)) }
-    requires le_from { (1 ≤ from) × ((from ≤ 10) × (held.len ≤ 12)) }
-    ensures settled { (P : Problem) → Posed P task gates.now prices.now durations.now → Bounded P least
+    requires le_from { (1 ≤ from) × (from ≤ 10) }
+    ensures { (P : Problem) → Posed P task entries.now → Bounded P least
         → Limited P task → Deepened P P.most_cost (from - 1) held → Settled P task.gate_limit result }
-    ensures len_bound { result.best.len ≤ 12 }
 {
     let limit = task.gate_limit;
-    let turn = prospects::turn_for(gates.len(), from);
+    let turn = prospects::turn_for(entries.len(), from);
     if limit <= turn {
         let all = Counts { from, most: limit };
-        return stage(gates, prices, durations, task, least, held, all, bits);
+        return stage(entries, task, least, held, all, bits);
     }
     let few = Counts { from, most: turn };
-    let first = stage(gates, prices, durations, task, least, held, few, bits);
-    if first.done {
-        return first;
+    if let Some(best) = stage(entries, task, least, held, few, bits) {
+        return Some(best);
     }
     let more = Counts {
         from: turn + 1,
         most: limit,
     };
-    stage(
-        gates,
-        prices,
-        durations,
-        task,
-        least,
-        best::nothing(),
-        more,
-        bits,
-    )
+    stage(entries, task, least, None, more, bits)
 }
 
 // The search with filters, from `from` gates on: two stages, with room for the bits of a filter.
 fn filtered(
-    gates: &[u8],
-    prices: &[u8],
-    durations: &[u8],
+    entries: &[Entry],
     task: Task,
     least: Least,
-    held: Best,
+    held: Option<Best>,
     from: usize,
-) -> Outcome
-    requires slices { Slices gates.now prices.now durations.now }
+) -> Option<Best>
+    requires known { OnWires entries.now }
     requires ready { Ready task least × ((from ≤ task.gate_limit) × (task.gate_limit ≤ 12)) }
-    requires le_from { (1 ≤ from) × ((from ≤ 10) × (held.len ≤ 12)) }
-    ensures settled { (P : Problem) → Posed P task gates.now prices.now durations.now → Bounded P least
+    requires le_from { (1 ≤ from) × (from ≤ 10) }
+    ensures { (P : Problem) → Posed P task entries.now → Bounded P least
         → Limited P task → Deepened P P.most_cost (from - 1) held → Settled P task.gate_limit result }
-    ensures len_bound { result.best.len ≤ 12 }
 {
     let mut bits = [0u64; 786432];
-    stages(gates, prices, durations, task, least, held, from, &mut bits)
+    stages(entries, task, least, held, from, &mut bits)
 }
 
-// The answer: none, where the search went through all counts of gates and is still not done.
-fn ended(o: Outcome) -> Best
-    requires { o.best.len ≤ 12 }
-    ensures result_value { (P : Problem) → Settled P P.most_gates o → view result ≡ first_good P }
-    ensures len_bound { result.len ≤ 12 }
-{
-    let best = o.best;
-    if o.done {
-        return best;
-    }
-    best::nothing()
-}
-
-// The first good choice of every problem that the slices and the task pose. First comes feasibility: the fewest gates, with no limit on
+// The first good choice of every problem that the entries and the task pose. First comes feasibility: the fewest gates, with no limit on
 // cost but the task's. What is found is the incumbent, and only lower costs remain to be tried. Short lists are searched with no filter.
-pub fn solve(gates: &[u8], prices: &[u8], durations: &[u8], task: Task) -> Best
-    requires slices { Slices gates.now prices.now durations.now }
+pub fn solve(entries: &[Entry], task: Task) -> Option<Best>
+    requires known { OnWires entries.now }
     requires fair { Fair task × (task.gate_limit ≤ 12) }
-    ensures result_value { (P : Problem) → Posed P task gates.now prices.now durations.now → Limited P task
+    ensures { (P : Problem) → Posed P task entries.now → Limited P task
         → view result ≡ first_good P }
-    ensures len_bound { result.len ≤ 12 }
 {
-    let least = prospects::least_of(gates, prices, task);
+    let least = prospects::least_of(entries, task);
     let limit = task.gate_limit;
     let none = [0u64; 0];
     let reach = prospects::no_filter();
@@ -222,15 +144,15 @@ pub fn solve(gates: &[u8], prices: &[u8], durations: &[u8], task: Task) -> Best
     let most = prospects::early(limit);
     let counts = Counts { from: 0, most };
     let no_sums = [0u8; 0];
-    let held = deepening::fewest(gates, prices, durations, setup, counts, &none, &no_sums);
+    let held = deepening::fewest(entries, setup, counts, &none, &no_sums);
     if limit <= most {
-        return ended(settle(gates, prices, durations, setup, held, &none));
+        return settle(entries, setup, held, &none);
     }
-    if !held.found {
-        return ended(filtered(gates, prices, durations, task, least, held, most + 1));
+    let Some(found) = held else {
+        return filtered(entries, task, least, None, most + 1);
+    };
+    if prospects::near(task, least, found, most) {
+        return settle(entries, setup, held, &none);
     }
-    if prospects::near(task, least, held, most) {
-        return ended(settle(gates, prices, durations, setup, held, &none));
-    }
-    ended(filtered(gates, prices, durations, task, least, held, most + 1))
+    filtered(entries, task, least, held, most + 1)
 }

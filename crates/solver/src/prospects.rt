@@ -1,6 +1,10 @@
 // What is settled before a walk: the lower bounds on every list, and which filter is worth the time to fill it.
-ghost use Rattle.std.specs.Prelude.{◌≡◌, List, ℕ, ◌-◌, ◌≤◌, ◌<◌, leb, length};
+ghost use Rattle.std.specs.Prelude.{◌≡◌, true, false, ℕ, ◌-◌, ◌≤◌, ◌<◌, leb, get_or, take};
+ghost use Rattle.std.specs.List.{All};
+ghost use mathlib.Core.List.{Memᴰ};
 ghost use Rattle.bounds.specs.budget.Afford.{buys};
+ghost use Rattle.problem.specs.declared.Entry.{Entry};
+ghost use Rattle.problem.specs.Entries.{entry_gates};
 ghost use Rattle.problem.specs.Problems.{Problem};
 ghost use Rattle.reach_filter.specs.fill.Sieve.{Sieve};
 ghost use Rattle.walk.specs.declared.node.Task.{Task};
@@ -9,22 +13,22 @@ ghost use Rattle.walk.specs.node.States.{Fair, Ready, Posed, Bounded};
 use bloom::hash::Reach;
 use bounds::{budget, elimination};
 use columns::table_columns;
+use problem::Entry;
 use problem::order::Best;
 use reach_filter::filter;
 use walk::node::{Least, Task};
 
 // The lower bounds on every list of these gates that realizes the task's table.
-pub fn least_of(gates: &[u8], prices: &[u8], task: Task) -> Least
+pub fn least_of(entries: &[Entry], task: Task) -> Least
     requires { Fair task }
     ensures ready { Ready task result }
-    ensures bounded { (P : Problem) (durations : List ℕ) → length prices.now ≡ length gates.now
-        → Posed P task gates.now prices.now durations → Bounded P result }
+    ensures bounded { (P : Problem) → Posed P task entries.now → Bounded P result }
 {
-    let low = budget::low(prices);
+    let low = budget::low(entries);
     let wanted = task.wanted;
     Least {
         low,
-        extra: budget::extra(gates, prices, low),
+        extra: budget::extra(entries, low),
         needs: elimination::needed(wanted, table_columns::start_columns(), task.outputs),
     }
 }
@@ -53,21 +57,73 @@ pub fn wider_from(count: usize, task: Task, least: Least, held: Best, radius: us
     if 32 < count {
         return top;
     }
-    let mut c = 0;
-    while c < top {
+    for c in 0..top {
         let most = budget::buys(least.low, least.extra, least.needs, c, task.gate_limit);
         if radius < radius_for(count, most) {
             return c;
         }
-        c += 1;
     }
-    c
+    top
+}
+
+// Which gate bytes the entries list.
+fn listed(entries: &[Entry]) -> [bool; 256]
+    ensures { All (λ (e : Entry). get_or result e.gate false ≡ true) entries.now }
+{
+    let mut listed = [false; 256];
+    for entry in entries {
+        listed[usize::from(entry.gate)] = true;
+    }
+    listed
+}
+
+// Gate bytes: the first `count` of `bytes`.
+#[derive(Clone, Copy)]
+struct Gates {
+    count: usize,
+    bytes: [u8; 256],
+    ghost fits: { count ≤ 256 },
+}
+
+// The bytes marked in `listed`, rising.
+fn collected(listed: [bool; 256]) -> Gates
+    ensures { (g : ℕ) → get_or listed g false ≡ true → Memᴰ g (take result.count result.bytes) }
+{
+    let mut bytes = [0u8; 256];
+    let mut count = 0;
+    for g in 0..256 {
+        if listed[g] {
+            bytes[count] = g as u8;
+            count += 1;
+        }
+    }
+    Gates { count, bytes }
+}
+
+// A filter of a radius for the gates of the entries, filled into `bits`. It is given each gate once, so that there is room for the gates of
+// any number of entries.
+pub fn filled(entries: &[Entry], task: Task, radius: usize, bits: &mut [u64]) -> Reach
+    requires { Fair task }
+    ensures { Sieve bits.new result (entry_gates entries.now) task.controls task.wanted task.outputs task.free }
+{
+    let gates = collected(listed(entries));
+    let bytes = gates.bytes;
+    let wanted = task.wanted;
+    filter::filter_for(
+        &bytes[..gates.count],
+        wanted,
+        task.outputs,
+        task.free,
+        radius,
+        size_for(entries.len(), radius),
+        bits,
+    )
 }
 
 // The filter for the costs from `from` on and below the incumbent's: a wider one, filled anew, or, where there is no such cost, the one at
 // hand.
 pub fn widened(
-    gates: &[u8],
+    entries: &[Entry],
     task: Task,
     least: Least,
     held: Best,
@@ -76,23 +132,14 @@ pub fn widened(
     bits: &mut [u64],
 ) -> Reach
     requires ready { Ready task least }
-    requires sieve { Sieve bits.old reach gates.now task.controls task.wanted task.outputs task.free }
-    ensures { Sieve bits.new result gates.now task.controls task.wanted task.outputs task.free }
+    requires sieve { Sieve bits.old reach (entry_gates entries.now) task.controls task.wanted task.outputs task.free }
+    ensures { Sieve bits.new result (entry_gates entries.now) task.controls task.wanted task.outputs task.free }
 {
     if held.cost as usize <= from {
         return reach;
     }
-    let radius = radius_for(gates.len(), most_cheaper(task, least, held));
-    let wanted = task.wanted;
-    filter::filter_for(
-        gates,
-        wanted,
-        task.outputs,
-        task.free,
-        radius,
-        size_for(gates.len(), radius),
-        bits,
-    )
+    let radius = radius_for(entries.len(), most_cheaper(task, least, held));
+    filled(entries, task, radius, bits)
 }
 
 // The radius of the filter for lists of up to `most` gates. It grows with `most`, and is smaller where there are more gates to choose from

@@ -2,19 +2,20 @@
 use mathlib.Core.Path.{◌≡◌, refl, sym, ap, ◌∙◌, subst}
 use mathlib.Core.List.Memᴰ
 use mathlib.Core.List.{[], ◌∷◌, List, Memᴰ}
-use mathlib.Core.Bool.{Bool, true, false}
-use Prim.Native.Nat.{zero, suc, ℕ, ◌+◌, ◌%◌, ◌^◌, ◌≤◌, ◌<◌}
+use mathlib.Core.Bool.{true}
+use Prim.Native.Nat.{zero, suc, ℕ, ◌+◌, ◌%◌, ◌^◌, ◌<◌}
 use native.Mathlib.Nat.{not-suc-le-zero, le_of_suc-le-suc, add-zero, add-suc, suc-add, div-eq_of_lt}
 use native.Mathlib.Numerals.{add-one}
 use native.Mathlib.Omega.{arith}
 use borrow.Author.Tests.{eqb-true, eq-eqb, ne_eqb}
+use Rattle.std.specs.List.{list_all, enumerate_from}
+use Rattle.logic.proofs.Chains.{and_both}
 use lib.Dec.{eqb}
-use lib.ListN.{length, get_or, drop, drop_of_length-le}
-use lib.Seq.{drop-cons}
-use Rattle.logic.specs.Rules.{both, all_below, pick}
+use lib.ListN.{length, get_or}
+use Rattle.logic.specs.Rules.{pick}
 use Rattle.logic.specs.Lists.{all_of}
 use Rattle.logic.specs.Bit.{bit_of}
-use Rattle.logic.proofs.Chain.{both_left, both_right, both_true, not_so, implied}
+use Rattle.logic.proofs.Chain.{both_left, both_right, both_true, implied}
 use Rattle.logic.proofs.Below.{below}
 use Rattle.logic.proofs.Counts.{same_truth, all_below_law}
 use Rattle.gate.specs.Gates.{lawful}
@@ -25,15 +26,12 @@ use Rattle.table.specs.Rows.{care_of, value_of, bit_agrees, row_agrees, agrees_f
 use mathlib.Core.Logic.{⊎_elim}
 use native.Mathlib.Decide.{ℕ_discrete}
 
-module _ (p : ℕ) (ends : ℕ → ℕ) (table : List ℕ) (x : ℕ) where
-  pub rows_turn : (t : Bool) → x < length table → row_agrees p (get_or table x 0) (ends x) ≡ t
-      → agrees_from p ends x (drop x table) ≡ both t (agrees_from p ends (x + 1) (drop (x + 1) table))
-  unfolding agrees_from
-  rows_turn t h e = rw (add-one, drop-cons table x 0 h, e)
-
-  pub rows_done : length table ≤ x → agrees_from p ends x (drop x table) ≡ true
-  unfolding agrees_from
-  rows_done h = rw (drop_of_length-le table h)
+-- the rows tested in turn, each with its number
+pub agrees_in_turn : (p : ℕ) (ends : ℕ → ℕ) (x : ℕ) (table : List ℕ)
+    → list_all (λ (q : ℕ × ℕ). row_agrees p q.1 (ends q.0)) (enumerate_from x table) ≡ agrees_from p ends x table
+unfolding agrees_from
+agrees_in_turn p ends x [] = refl
+agrees_in_turn p ends x (row ∷ table) = rw (agrees_in_turn p ends (x + 1) table, add-one) (and_both (row_agrees p row (ends x)) _)
 
 -- a list that agrees with a table does so in each row, on each wanted bit
 pub agrees_at : (p : ℕ) (ends : ℕ → ℕ) (table : List ℕ) (i x : ℕ) → agrees_from p ends i table ≡ true → x < length table
@@ -63,19 +61,6 @@ agrees_all p ends x (row ∷ table) h =
     both_true (ap (λ n. row_agrees p row (ends n)) e ∙ h 0 (omega arith))
     (agrees_all p ends (suc x) table
     (λ i l. let e : suc x + i ≡ x + suc i = omega arith in ap (λ n. row_agrees p (get_or table i 0) (ends n)) e ∙ h (suc i) (omega arith)))
-
--- the rows below x leave the ancilla at 0: the next row does too, or does not, or all rows are done
-module _ (n : ℕ) (ends : ℕ → ℕ) (x : ℕ) where
-  pub clean_turn : all_below x (at_zero n ends) ≡ true → bit_of n (ends x) ≡ 0 → all_below (x + 1) (at_zero n ends) ≡ true
-  clean_turn h e = rw add-one (both_true (eq-eqb (bit_of n (ends x)) 0 e) h)
-
-  pub clean_stop : x < 2 ^ n → (bit_of n (ends x) ≡ 0 → ⊥) → false ≡ clean n ends
-  unfolding clean
-  clean_stop l f = sym (not_so (clean n ends) (λ h. f (eqb-true (bit_of n (ends x)) 0 (below (2 ^ n) (at_zero n ends) h x l))))
-
-  pub clean_done : x ≡ 2 ^ n → all_below x (at_zero n ends) ≡ true → true ≡ clean n ends
-  unfolding clean
-  clean_done e h = sym (ap (λ k. all_below k (at_zero n ends)) (sym e) ∙ h)
 
 -- a list realizes the rows exactly if it agrees with them and is clean
 module _ (n : ℕ) (rows : List ℕ) (p : ℕ) (gs : List ℕ) where

@@ -7,40 +7,29 @@ use circuit::run;
 
 // Whether output `j` is right in a row whose wires end with the value `v`: the row does not care about it, or its wire under the layout
 // `p` has the row's bit.
+#[tactic(auto, unfolding(crate::specs::Rows::bit_agrees))]
 fn bit_agrees(p: u8, row: u8, v: usize, j: usize) -> bool
     requires { j < 4 }
     ensures { result ≡ bit_agrees p row v j }
 {
-    let care = logic::wide(row) / 16;
-    let value = logic::wide(row) % 16;
-    let wire = (logic::wide(p) >> (6 - 2 * j)) % 4;
-    logic::implies((care >> j) % 2 == 1, (v >> wire) % 2 == (value >> j) % 2)
+    let care = usize::from(row / 16);
+    let value = usize::from(row % 16);
+    let wire = usize::from(p >> (6 - 2 * j)) % 4;
+    (care >> j) % 2 != 1 || (v >> wire) % 2 == (value >> j) % 2
 }
 
 // Whether all outputs of a row are right.
 fn row_agrees(p: u8, row: u8, v: usize) -> bool
     ensures { result ≡ row_agrees p row v }
 {
-    let low = logic::both(
-        bit_agrees(p, row, v, 1),
-        logic::both(bit_agrees(p, row, v, 0), true),
-    );
-    logic::both(
-        bit_agrees(p, row, v, 3),
-        logic::both(bit_agrees(p, row, v, 2), low),
-    )
+    (0..4).all(|j| bit_agrees(p, row, v, j))
 }
 
 // Whether a gate list is right in every row under the layout `p`. Row x starts with the value x.
 pub fn agrees(p: u8, list: &[u8], rows: &[u8]) -> bool
     ensures { result ≡ agrees p (forwards list.now) rows.now }
 {
-    let mut x = 0;
-    while x < rows.len() {
-        if !row_agrees(p, rows[x], run::forwards(list, x)) {
-            return false;
-        }
-        x += 1;
-    }
-    true
+    rows.iter()
+        .enumerate()
+        .all(|(x, &row)| row_agrees(p, row, run::forwards(list, x)))
 }

@@ -10,12 +10,5 @@ pub fn clean(n: usize, list: &[u8]) -> bool
     requires { n < 64 }
     ensures { result ≡ clean n (forwards list.now) }
 {
-    let mut x = 0;
-    while x < (1 << n) {
-        if (run::forwards(list, x) >> n) % 2 != 0 {
-            return false;
-        }
-        x += 1;
-    }
-    true
+    (0..1 << n).all(|x| (run::forwards(list, x) >> n) % 2 == 0)
 }

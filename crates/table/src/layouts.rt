@@ -17,23 +17,33 @@ pub fn layout_ok(n: usize, p: u8) -> bool
     ensures { result ≡ layout_ok n p }
 {
     let named = (1u8 << (p / 64)) | (1u8 << (p / 16 % 4)) | (1u8 << (p / 4 % 4));
+    let three = named == 7;
     if n == 3 {
-        logic::both(named == 7, p % 4 == 0)
+        three && p % 4 == 0
     } else {
         named | (1u8 << (p % 4)) == 15
     }
 }
 
-// The number of allowed layouts. Where `free` is 1, all layouts in order are allowed; else only the plain one is.
+// The allowed layouts, in rising byte order. Where `free` is 1, all layouts in order are allowed; else only the plain one is.
+fn listed(n: usize, free: usize) -> &'static [u8]
+    requires { Width n }
+    ensures { result.now ≡ layouts_for n free }
+{
+    match (n, free) {
+        (3, 1) => &LAYOUTS3,
+        (_, 1) => &LAYOUTS4,
+        (3, _) => &[0x18],
+        _ => &[0x1B],
+    }
+}
+
+// The number of allowed layouts.
 pub fn layout_count(n: usize, free: usize) -> usize
     requires { Width n }
     ensures { result ≡ length (layouts_for n free) }
 {
-    if free == 1 {
-        if n == 3 { 6 } else { 24 }
-    } else {
-        1
-    }
+    listed(n, free).len()
 }
 
 // Allowed layout `i`, in rising byte order, or 0 past the last.
@@ -41,22 +51,11 @@ pub fn layout_at(n: usize, free: usize, i: usize) -> u8
     requires { Width n }
     ensures { result ≡ get_or (layouts_for n free) i 0 }
 {
-    if free == 1 {
-        if n == 3 {
-            logic::at(&LAYOUTS3, i)
-        } else {
-            logic::at(&LAYOUTS4, i)
-        }
-    } else {
-        if n == 3 {
-            logic::at(&[0x18], i)
-        } else {
-            logic::at(&[0x1B], i)
-        }
-    }
+    logic::at(listed(n, free), i)
 }
 
 // Whether a layout is allowed: where `free` is 1, any layout in order; else only the plain one.
+#[tactic(auto, unfolding(crate::specs::layouts::Layouts::allowed))]
 pub fn allowed(n: usize, free: usize, p: u8) -> bool
     requires { Width n }
     ensures { result ≡ allowed n free p }
@@ -64,7 +63,7 @@ pub fn allowed(n: usize, free: usize, p: u8) -> bool
     if free == 1 {
         layout_ok(n, p)
     } else {
-        if n == 3 { p == 0x18 } else { p == 0x1B }
+        p == plain(n)
     }
 }
 

@@ -14,16 +14,14 @@ ghost use Rattle.logic.specs.Lists.{all_of};
 ghost use Rattle.table.specs.Rows.{row_ok};
 
 // Whether a row is in order for `n` outputs: no value bit outside the care mask, and no bit of either from `n` on.
+#[tactic(auto, unfolding(crate::specs::Rows::row_ok))]
 fn row_ok(n: usize, row: u8) -> bool
     requires { n < 64 }
     ensures { result ≡ row_ok n row }
 {
-    let care = logic::wide(row) / 16;
-    let value = logic::wide(row) % 16;
-    logic::both(
-        care & value == value,
-        logic::both(care < (1 << n), value < (1 << n)),
-    )
+    let care = usize::from(row / 16);
+    let value = usize::from(row % 16);
+    care & value == value && care < 1 << n && value < 1 << n
 }
 
 // Whether every row of a table is in order for `n` outputs.
@@ -31,12 +29,5 @@ pub fn rows_ok(n: usize, rows: &[u8]) -> bool
     requires { n < 64 }
     ensures { result ≡ all_of (row_ok n) rows.now }
 {
-    let mut i = 0;
-    while i < rows.len() {
-        if !row_ok(n, rows[i]) {
-            return false;
-        }
-        i += 1;
-    }
-    true
+    rows.iter().all(|&row| row_ok(n, row))
 }

@@ -1,5 +1,5 @@
 -- What a job and a circuit that measuring does not refuse are known to be.
-use mathlib.Core.Path.{◌≡◌}
+use mathlib.Core.Path.{◌≡◌, sym}
 use mathlib.Core.Bool.{true}
 use mathlib.Core.List.{List}
 use Prim.Native.Nat.{ℕ}
@@ -24,3 +24,13 @@ Parts job c = (job_code job ≡ 0) × ((circuit_code c ≡ 0) × ((same_wires jo
 pub measure_parts : (job c : List ℕ) → measure_code job c ≡ 0 → Parts job c
 unfolding measure_code
 measure_parts job c h = let p = and_then_zero (job_code job) (circuit_code_for job c) h in (p.0, circuit_parts job c p.1)
+
+-- the same for a call that goes on after these checks
+module _ (job c : List ℕ) (h : 0 ≡ measure_code job c) where
+  pub measured_job : job_code job ≡ 0
+  measured_job = (measure_parts job c (sym h)).0
+
+  pub measured_circuit : circuit_code c ≡ 0
+  measured_circuit = (measure_parts job c (sym h)).1.0
+
+pub ruleset measured = (measured_job, measured_circuit)

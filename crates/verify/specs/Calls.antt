@@ -1,23 +1,16 @@
 -- What measuring and verifying (document 01: judging) answer.
 use Rattle.std.specs.Prelude.{List, ℕ}
 use Rattle.logic.specs.Rules.{and_then, rule}
-use Rattle.logic.specs.Answers.{Answer, refused, answered, answer_of}
+use Rattle.logic.specs.Answers.{Answer, answer_of}
 use Rattle.record.specs.job_fields.Jobs.{price_of, duration_of, data_wires, free_layout, rows}
 use Rattle.record.specs.circuit_fields.Circuits.{gates, layout_of}
 use Rattle.circuit.specs.declared.measures.Measures.{Measures}
 use Rattle.circuit.specs.measures.Measures.{measures_of}
-use Rattle.verify.specs.declared.Measured.{Measured}
-use Rattle.verify.specs.declared.Measured.TheVariants.{Within}
 use Rattle.record.specs.pair_codes.Codes.{measure_code}
 use Rattle.circuit.specs.run.Run.{forwards}
 use Rattle.table.specs.layouts.Layouts.{allowed}
 use Rattle.table.specs.Rows.{agrees, clean}
 use Rattle.verify.specs.limits.Limits.{limits_code}
-
--- document 01's number of each refusal, and the values of each other case
-abbrev pub measured_answer : Measured → Answer Measures
-measured_answer (Measured.Refused code) = refused code
-measured_answer (Within m) = answered m
 
 -- the measures of a circuit at a job's prices and durations
 abbrev pub measures_for : List ℕ → List ℕ → Measures

@@ -10,20 +10,14 @@ pub mod runs;
 
 ghost use Rattle.std.specs.Prelude.{◌≡◌};
 ghost use Rattle.record.specs.circuit_rules.CircuitRules.{circuit_code};
-ghost use Rattle.verify.specs.Calls.{measured_answer, measures_for, measure_of};
-ghost use Rattle.verify.specs.Calls.{verify_of};
+ghost use Rattle.record.specs.Answers.{reply};
+ghost use Rattle.verify.specs.Calls.{measures_for, measure_of, verify_of};
 
-pub use crate::runs::{Ran, run_backwards, run_forwards};
+pub use crate::runs::{run_backwards, run_forwards};
 use circuit::measures;
 use circuit::measures::Measures;
+use record::refusal::Refusal;
 use record::{circuit_fields, job_fields, pair_codes};
-
-// What measuring and verifying answer: the code of the first rule broken, or the circuit's measures.
-#[derive(Clone, Copy)]
-pub enum Measured {
-    Refused(u8),
-    Within(Measures),
-}
 
 // The measures of a sound circuit at a job's prices and durations.
 fn measures_for(job: &[u8], c: &[u8]) -> Measures
@@ -38,28 +32,21 @@ fn measures_for(job: &[u8], c: &[u8]) -> Measures
 }
 
 // Measures a circuit at a job's prices and durations.
-pub fn measure(job: &[u8], c: &[u8]) -> Measured
-    ensures { measured_answer result ≡ measure_of job.now c.now }
+#[tactic(auto, using(crate::proofs::Codes::measured), unfolding(crate::specs::Calls::measure_of))]
+pub fn measure(job: &[u8], c: &[u8]) -> Result<Measures, Refusal>
+    ensures { reply result ≡ measure_of job.now c.now }
 {
-    let code = pair_codes::measure_code(job, c);
-    if code != 0 {
-        return Measured::Refused(code);
-    }
-    Measured::Within(measures_for(job, c))
+    pair_codes::check_measure(job, c)?;
+    Ok(measures_for(job, c))
 }
 
 // Verifies that a circuit realizes the table of a job within its limits. A pass returns the measures.
-pub fn verify(job: &[u8], c: &[u8]) -> Measured
-    ensures { measured_answer result ≡ verify_of job.now c.now }
+#[tactic(auto, using(crate::proofs::Codes::measured), unfolding(crate::specs::Calls::verify_of, crate::specs::Calls::verify_code))]
+pub fn verify(job: &[u8], c: &[u8]) -> Result<Measures, Refusal>
+    ensures { reply result ≡ verify_of job.now c.now }
 {
-    let code = pair_codes::measure_code(job, c);
-    if code != 0 {
-        return Measured::Refused(code);
-    }
+    pair_codes::check_measure(job, c)?;
     let m = measures_for(job, c);
-    let rest = rules::verify_rest(job, c, m);
-    if rest != 0 {
-        return Measured::Refused(rest);
-    }
-    Measured::Within(m)
+    rules::check_rest(job, c, m)?;
+    Ok(m)
 }

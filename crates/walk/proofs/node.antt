@@ -1,3 +1,4 @@
+pub mod Entries
 pub mod Nodes
 pub mod Forms
 pub mod Pruning

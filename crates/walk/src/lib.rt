@@ -26,29 +26,26 @@ use bloom::targets;
 use columns::table_columns;
 use normal_forms::masks;
 use outputs::{plan, product_table};
+use problem::Entry;
 use problem::order::Best;
-use problem::{Entry, best};
 
 // The incumbent once a subtree was walked: the first of `best` and the good choices of all lists in it, but for lists that go on by a
 // needless gate.
 fn dfs(
-    gates: &[u8],
-    prices: &[u8],
-    durations: &[u8],
+    entries: &[Entry],
     setup: Setup,
     tree: Subtree,
-    best: Best,
+    best: Option<Best>,
     bits: &[u64],
     sums: &[u8],
-) -> Best
-    requires supplied { Supplied gates.now prices.now durations.now setup.task bits.now setup.reach }
+) -> Option<Best>
+    requires supplied { Supplied entries.now setup.task bits.now setup.reach }
     requires fair { Fair setup.task × (setup.least.extra ≤ 255) }
-    requires remaining_bound { (tree.node.len + tree.remaining ≤ 12) × (best.len ≤ 12) }
+    requires remaining_bound { tree.node.len + tree.remaining ≤ 12 }
     requires small { Small tree.node }
-    ensures result_value { (P : Problem) → Given P setup gates.now prices.now durations.now → At P tree.node
+    ensures { (P : Problem) → Given P setup entries.now → At P tree.node
         → Exact P setup.task.cost_limit (list_of tree.node) tree.remaining sums.now
         → view result ≡ tried_under needless P setup.task.cost_limit (list_of tree.node) tree.remaining (view best) }
-    ensures len_bound { result.len ≤ 12 }
 {
     let s = tree.node;
     let remaining = tree.remaining;
@@ -72,25 +69,24 @@ fn dfs(
     let table = product_table::table_of(task.controls, wanted, columns);
     let reach = setup.reach;
     let wires = targets::open_wires(bits, reach, columns, most - 1);
-    let mut i = 0;
-    while i < gates.len() {
-        let g = gates[i];
-        if tests::eligible(&table, plan, task.outputs, task.free, wires, g, most) {
-            let entry = Entry {
-                gate: g,
-                price: prices[i],
-                duration: durations[i],
-            };
-            if tests::promising(&table, task, s, entry, most, b, bits, reach) {
+    for entry in entries {
+        if tests::eligible(
+            &table,
+            plan,
+            task.outputs,
+            task.free,
+            wires,
+            entry.gate,
+            most,
+        ) {
+            if tests::promising(&table, task, s, *entry, most, b, bits, reach) {
                 let next = Subtree {
-                    node: advance::advance(&table, task, least, s, entry),
+                    node: advance::advance(&table, task, least, s, *entry),
                     remaining: remaining - 1,
                 };
-                let found = dfs(gates, prices, durations, setup, next, b, bits, sums);
-                b = found;
+                b = dfs(entries, setup, next, b, bits, sums);
             }
         }
-        i += 1;
     }
     b
 }
@@ -114,34 +110,16 @@ pub fn root(needs: usize) -> Node
 
 // One walk from the empty list: the first of the lists that cost at most the task's limit and have at most `most` gates. Sums are given
 // only where every good list has exactly so many gates and costs exactly so much.
-pub fn run(
-    gates: &[u8],
-    prices: &[u8],
-    durations: &[u8],
-    setup: Setup,
-    most: usize,
-    bits: &[u64],
-    sums: &[u8],
-) -> Best
-    requires supplied { Supplied gates.now prices.now durations.now setup.task bits.now setup.reach }
+pub fn run(entries: &[Entry], setup: Setup, most: usize, bits: &[u64], sums: &[u8]) -> Option<Best>
+    requires supplied { Supplied entries.now setup.task bits.now setup.reach }
     requires ready { Ready setup.task setup.least × (most ≤ 12) }
-    ensures result_value { (P : Problem) → Given P setup gates.now prices.now durations.now
+    ensures { (P : Problem) → Given P setup entries.now
         → Exact P setup.task.cost_limit [] most sums.now
         → view result ≡ looked_under P setup.task.cost_limit [] most none }
-    ensures len_bound { result.len ≤ 12 }
 {
     let tree = Subtree {
         node: root(setup.least.needs),
         remaining: most,
     };
-    dfs(
-        gates,
-        prices,
-        durations,
-        setup,
-        tree,
-        best::nothing(),
-        bits,
-        sums,
-    )
+    dfs(entries, setup, tree, None, bits, sums)
 }

@@ -19,11 +19,10 @@ use problem::order::Best;
 use table::layouts;
 
 // The incumbent after the node's list was offered with one layout: the earlier of the two, where the list is good with it.
-fn try_layout(task: Task, s: Node, p: u8, best: Best) -> Best
-    requires { (s.len ≤ 12) × (best.len ≤ 12) }
-    ensures result_value { (P : Problem) → Asks P task → At P s
+fn try_layout(task: Task, s: Node, p: u8, best: Option<Best>) -> Option<Best>
+    requires { s.len ≤ 12 }
+    ensures { (P : Problem) → Asks P task → At P s
         → view result ≡ attempt (within P task.cost_limit) (view best) (choice_of P (list_of s) p) }
-    ensures len_bound { result.len ≤ 12 }
 {
     let wanted = task.wanted;
     let columns = s.columns;
@@ -38,7 +37,6 @@ fn try_layout(task: Task, s: Node, p: u8, best: Best) -> Best
     }
     let path = s.path;
     let mine = Best {
-        found: true,
         cost: s.cost,
         depth,
         layout: p,
@@ -49,34 +47,29 @@ fn try_layout(task: Task, s: Node, p: u8, best: Best) -> Best
 }
 
 // The incumbent after the node's list was offered with each allowed layout.
-fn consider(task: Task, s: Node, best: Best) -> Best
+fn consider(task: Task, s: Node, best: Option<Best>) -> Option<Best>
     requires width { Width task.outputs }
-    requires len_bound { (s.len ≤ 12) × (best.len ≤ 12) }
-    ensures result_value { (P : Problem) → Asks P task → At P s
+    requires len_bound { s.len ≤ 12 }
+    ensures { (P : Problem) → Asks P task → At P s
         → view result ≡ improve (within P task.cost_limit) (view best) (here P (list_of s)) }
-    ensures len_bound_2 { result.len ≤ 12 }
 {
     let count = layouts::layout_count(task.outputs, task.free);
     let mut b = best;
-    let mut i = 0;
-    while i < count {
+    for i in 0..count {
         let p = layouts::layout_at(task.outputs, task.free, i);
-        let next = try_layout(task, s, p, b);
-        b = next;
-        i += 1;
+        b = try_layout(task, s, p, b);
     }
     b
 }
 
 // The incumbent after the node's list was offered with each allowed layout. `missing` counts the outputs that every layout misses; where
 // there is one, no layout is good, and none is tried.
-pub fn consider_met(task: Task, s: Node, missing: usize, best: Best) -> Best
+pub fn consider_met(task: Task, s: Node, missing: usize, best: Option<Best>) -> Option<Best>
     requires width { Width task.outputs }
-    requires len_bound { (s.len ≤ 12) × (best.len ≤ 12) }
+    requires len_bound { s.len ≤ 12 }
     requires missing_value { missing ≡ lost task.wanted s.columns task.outputs task.free }
-    ensures result_value { (P : Problem) → Asks P task → At P s
+    ensures { (P : Problem) → Asks P task → At P s
         → view result ≡ improve (within P task.cost_limit) (view best) (here P (list_of s)) }
-    ensures len_bound_2 { result.len ≤ 12 }
 {
     if missing == 0 {
         consider(task, s, best)
@@ -86,20 +79,17 @@ pub fn consider_met(task: Task, s: Node, missing: usize, best: Best) -> Best
 }
 
 // The most that a list may cost and still change the incumbent.
-fn cap(limit: usize, best: Best) -> usize
+fn cap(limit: usize, best: Option<Best>) -> usize
     ensures { (P : Problem) (c : Choice) → result < c.cost → attempt (within P limit) (view best) c ≡ view best }
 {
-    let cost = best.cost as usize;
-    if best.found {
-        if cost < limit {
-            return cost;
-        }
+    match best {
+        Some(held) => limit.min(usize::from(held.cost)),
+        None => limit,
     }
-    limit
 }
 
 // The most gates that a list may go on by and still change the incumbent: what the cost left buys, the heavy gates still needed among them.
-pub fn affordable(task: Task, least: Least, s: Node, remaining: usize, best: Best) -> usize
+pub fn affordable(task: Task, least: Least, s: Node, remaining: usize, best: Option<Best>) -> usize
     requires { (s.needs ≤ 12) × (least.extra ≤ 255) }
     ensures upper_bound { result ≤ remaining }
     ensures enough { (P : Problem) → Bounded P least → At P s → Enough P task.cost_limit (list_of s) remaining result (view best) }
@@ -117,21 +107,21 @@ pub fn affordable(task: Task, least: Least, s: Node, remaining: usize, best: Bes
 
 // Whether no list that begins with one of this cost and length changes the incumbent: it costs more than the limit or the incumbent, or as
 // much as the incumbent with more gates.
-pub fn dear(limit: usize, paid: usize, len: usize, best: Best) -> bool
+pub fn dear(limit: usize, paid: usize, len: usize, best: Option<Best>) -> bool
     ensures { result ≡ true → (P : Problem) (l : List ℕ) (k : ℕ) → paid ≡ cost P.price l → len ≡ length l
         → looked_under P limit l k (view best) ≡ view best }
 {
     if limit < paid {
         return true;
     }
-    if !best.found {
+    let Some(held) = best else {
         return false;
+    };
+    let cost = usize::from(held.cost);
+    if cost == paid {
+        return held.len < len;
     }
-    let held = best.cost as usize;
-    if held == paid {
-        return best.len < len;
-    }
-    held < paid
+    cost < paid
 }
 
 // Whether no list of exactly `count` gates costs exactly what is left of the limit. Where the sums do not go that far the answer is no.

@@ -54,7 +54,7 @@ pub fn promising(
     s: Node,
     entry: Entry,
     most: usize,
-    best: Best,
+    best: Option<Best>,
     bits: &[u64],
     reach: Reach,
 ) -> bool

@@ -1,13 +1,16 @@
 -- A list's gates cost at least the least price each, and its heavy gates the difference more: so a budget bounds the length.
-use mathlib.Core.Path.{◌≡◌}
-use mathlib.Core.Logic.{⊎_elim}
+use mathlib.Core.Path.{◌≡◌, sym}
 use mathlib.Core.Bool.{Bool, true, false}
 use mathlib.Core.List.{List, [], ◌∷◌}
 use Prim.Native.Nat.{ℕ, zero, suc, ◌+◌, ◌-◌, ◌*◌, ◌≤◌, ◌<◌, min}
-use native.Mathlib.Nat.{mul-le-mul, mul-le-mul_right, le-div_iff_mul-le, eq-or-lt_of_le}
+use native.Mathlib.Nat.{mul-le-mul, mul-le-mul_right, le-div_iff_mul-le}
 use native.Mathlib.Omega.{arith}
 use borrow.Author.Tests.{ne_eqb}
-use lib.ListN.{length}
+use lib.ListN.{length, get_or, take}
+use lib.Seq.{take_all}
+use Rattle.std.specs.List.{All}
+use Rattle.std.proofs.lemmas.List.Elements.{All-more, All-weaker, All-same}
+use Rattle.problem.specs.declared.Entry.{Entry}
 use Rattle.logic.specs.Rules.{pick, bit}
 use Rattle.logic.specs.Lists.{total, Among}
 use Rattle.logic.proofs.Counts.{bit_le}
@@ -20,10 +23,17 @@ use Rattle.bounds.specs.budget.Afford.{CostsAtLeast, buys}
 pub product_le : {needed extra : ℕ} → needed ≤ 12 → extra ≤ 255 → needed * extra ≤ 3060
 product_le h k = mul-le-mul h k
 
--- the least of the first numbers, and one more
-pub least_turn : (f : ℕ → ℕ) (i old next x : ℕ) → next ≡ min old x → x ≡ f i → ((j : ℕ) → j < i → old ≤ f j) → (j : ℕ) → j < i + 1 → next ≤ f j
-least_turn f i old next x en ex h j hj =
-    ⊎_elim (λ (e : j ≡ i). rw (e, ← ex) (omega arith)) (λ (k : j < i). let b = h j k in omega arith) (eq-or-lt_of_le {n = j} {m = i} (omega arith))
+-- the least of the first entries by some measure, and of one more
+module _ (f : Entry → ℕ) (entries : List Entry) (i old next : ℕ) (d : Entry) where
+  pub least_turn : i < length entries → next ≡ min old (f (get_or entries i d)) → All (λ (e : Entry). old ≤ f e) (take i entries)
+      → All (λ (e : Entry). next ≤ f e) (take (i + 1) entries)
+  least_turn h n before =
+      All-more (λ (e : Entry). next ≤ f e) entries i d h
+      (All-weaker (λ (e : Entry). old ≤ f e) (λ (e : Entry). next ≤ f e) (λ e k. omega arith) (take i entries) before) (omega arith)
+
+-- a loop that has passed all entries
+pub all_passed : (Q : Entry → Type 0) (entries : List Entry) (i : ℕ) → length entries ≤ i → All Q (take i entries) → All Q entries
+all_passed Q entries i h passed = All-same Q entries (take i entries) (sym (take_all i entries h)) passed
 
 -- a heavy gate that costs no less than `least`, and any gate that costs no less than `low`
 pub extra_least : (t : Bool) (low least price : ℕ) → low ≤ price → least ≤ pick t price 255 → low + pick t (least - low) 0 ≤ price

@@ -9,10 +9,13 @@ use native.Mathlib.Nat.{eq-or-lt_of_le}
 use native.Mathlib.Omega.{arith}
 use lib.ListN.{length, drop, get_or, length-set}
 use lib.Seq.{get_or-set_same, get_or-set_other}
+use Rattle.std.proofs.lemmas.List.{get_or-map, length-map}
 use Rattle.logic.specs.Lists.{total, along, Among}
 use Rattle.logic.proofs.Members.{among_head, among_tail}
 use Rattle.logic.proofs.Fold.{along_more, along_done}
 use Rattle.circuit.specs.Measure.{cost}
+use Rattle.problem.specs.declared.Entry.{Entry}
+use Rattle.problem.specs.Entries.{entry_prices}
 use Rattle.bounds.specs.sums.Sums.{put, put_from, Extends, Marked}
 
 module _ (price : ℕ → ℕ) (gates prices sums : List ℕ) (limit : ℕ) (priced : (g : ℕ) → Memᴰ g gates → Memᴰ (price g) prices)
@@ -44,15 +47,21 @@ unfolding put
 put_marked i sums h = rw (get_or-set_same sums i 1 0 h) (omega arith)
 
 module _ (i : ℕ) where
-  -- one turn of the loop over the prices, and its end
-  pub from_turn : (prices sums next : List ℕ) (k : ℕ) → k < length prices → next ≡ put (i + (13 * get_or prices k 0 + 1)) sums
-      → put_from i (drop (k + 1) prices) next ≡ put_from i (drop k prices) sums
+  -- one turn of the loop over the entries, and its end
+  pub from_turn : (entries : List Entry) (sums next : List ℕ) (k : ℕ) (d : Entry) → k < length entries
+      → next ≡ put (i + (13 * (get_or entries k d).price + 1)) sums
+      → put_from i (drop (k + 1) (entry_prices entries)) next ≡ put_from i (drop k (entry_prices entries)) sums
   unfolding put_from
-  from_turn prices sums next k h en = rw en (sym (along_more (λ c. put (i + (13 * c + 1))) prices k 0 sums h))
+  from_turn entries sums next k d h en =
+      let at = get_or-map (λ (e : Entry). e.price) entries k d 0 h in
+      let long = length-map entries (λ (e : Entry). e.price) in
+      rw (en, ← at) (sym (along_more (λ c. put (i + (13 * c + 1))) (entry_prices entries) k 0 sums (omega arith)))
 
-  pub from_done : (prices sums : List ℕ) (k : ℕ) → length prices ≤ k → put_from i (drop k prices) sums ≡ sums
+  pub from_done : (entries : List Entry) (sums : List ℕ) (k : ℕ) → length entries ≤ k → put_from i (drop k (entry_prices entries)) sums ≡ sums
   unfolding put_from
-  from_done prices sums k h = along_done (λ c. put (i + (13 * c + 1))) prices k sums h
+  from_done entries sums k h =
+      let long = length-map entries (λ (e : Entry). e.price) in
+      along_done (λ c. put (i + (13 * c + 1))) (entry_prices entries) k sums (omega arith)
 
   from_length : (prices sums : List ℕ) → length (put_from i prices sums) ≡ length sums
   unfolding put_from along

@@ -1,12 +1,13 @@
-use native.Mathlib.Omega.{arith}
-use Rattle.logic.proofs.Fold.{total_more, total_done}
-use Rattle.circuit.specs.Measure.{weight_of}
+use Rattle.std.proofs.Common.{rules, tests, ◌∙◌}
+use Rattle.std.proofs.lemmas.Iterator.{YieldsList-from_slice, YieldsList-from_map}
+use Rattle.std.proofs.lemmas.Iterator.Consumers.{sum_by_from_yields_List}
+use Rattle.logic.proofs.Chains.{sum_by_is_total}
 use Rattle.circuit.proofs.cost.Goals as goal
 
-pub loop-i-preserved : goal.loop-i-preserved
-loop-i-preserved c =
-    let h = total_more (weight_of c.args.prices) c.args.gates.now c.loop-i.i 0 (omega arith) in
-    (omega arith, (omega arith, omega arith))
-
 pub returns : goal.returns
-returns c = omega (arith, total_done (weight_of c.args.prices) c.args.gates.now c.loop-i.i (omega arith))
+returns g c =
+    let price = g.R.Rate.rate c.args.prices in
+    let gates = c.args.gates.now in
+    sum_by_from_yields_List price gates c.map.result _ c.sum.ensures.ran
+    (YieldsList-from_map _ price (YieldsList-from_slice gates (cc)) c.map.ensures.closure (λ x r q k. search (rules, tests)))
+    ∙ sum_by_is_total price gates

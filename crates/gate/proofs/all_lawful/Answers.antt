@@ -1,20 +1,11 @@
-use mathlib.Core.Path.{sym, ◌∙◌}
-use native.Mathlib.Omega.{arith}
-use Rattle.logic.proofs.Fold.{all_stop, all_step, all_end}
+use Rattle.std.proofs.Common.{rules, tests, ◌∙◌}
+use Rattle.std.proofs.lemmas.Iterator.{YieldsList-from_slice}
+use Rattle.std.proofs.lemmas.Iterator.Search.{all_from_yields_List}
 use Rattle.gate.specs.Gates.{lawful}
+use Rattle.logic.proofs.Chains.{list_all_is_all_of}
 use Rattle.gate.proofs.all_lawful.Goals as goal
 
-pub returns-then-not-lawful : goal.returns-then-not-lawful
-returns-then-not-lawful c =
-    all_stop (lawful c.args.k c.args.w) c.args.list.now c.loop-i.i 0 c.loop-i.invariant.1 (omega arith)
-    (sym c.lawful.ensures ∙ c.if-not-lawful.true)
-
-pub loop-i-preserved : goal.loop-i-preserved
-loop-i-preserved c = (
-  omega arith,
-  all_step (lawful c.args.k c.args.w) c.args.list.now c.loop-i.i 0 c.loop-i.invariant.1 (omega arith)
-      (sym c.lawful.ensures ∙ c.if-not-lawful.false),
-)
-
 pub returns : goal.returns
-returns c = all_end (lawful c.args.k c.args.w) c.args.list.now c.loop-i.i 0 c.loop-i.invariant.1 (omega arith)
+returns c =
+    all_from_yields_List (lawful c.args.k c.args.w) _ _ _ c.all.ensures.ran (YieldsList-from_slice c.args.list.now cc) (λ x b q k. search (rules, tests))
+    ∙ list_all_is_all_of _ _

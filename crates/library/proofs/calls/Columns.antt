@@ -1,4 +1,4 @@
--- The columns of a sound library: its gates, and the price and the duration of each.
+-- The entries of a sound library: each is the first of its gate, so that its price and duration are the gate's.
 use mathlib.Core.Path.{◌≡◌, refl, sym, ap, ◌∙◌, subst}
 use mathlib.Core.Bool.{true}
 use mathlib.Core.List.{List, [], ◌∷◌, map}
@@ -50,54 +50,16 @@ module _ (k w : ℕ) (d : Entry) where
       let there = above (suc e.gate) es rest i (le_of_suc-le-suc l) in
       rw (ne_eqb e.gate (get_or es i d).gate (λ q. omega arith)) (found_at (suc e.gate) es rest i (le_of_suc-le-suc l))
 
-gate_at : (es : List Entry) (i : ℕ) (d : Entry) → i < length es → get_or (map gate_in es) i 0 ≡ (get_or es i d).gate
-gate_at [] i d h = absurd (not-suc-le-zero h)
-gate_at (e ∷ es) zero d h = refl
-gate_at (e ∷ es) (suc i) d h = gate_at es i d (le_of_suc-le-suc h)
+module _ (job lib : List ℕ) (sound : library_code job lib ≡ 0) where
+  pub lawful_entries : Lawfuls job (gates_in lib)
+  lawful_entries = gates_lawful job lib (sound_library job lib sound).sound
 
-length_gates : (es : List Entry) → length (map gate_in es) ≡ length es
-length_gates [] = refl
-length_gates (e ∷ es) = ap suc (length_gates es)
+  entry_own : (i : ℕ) (d : Entry) → i < length (entries_of lib) → get_or (entries_of lib) i d ≡ entry_for (entries_of lib) (get_or (entries_of lib) i d).gate
+  entry_own i d h = sym (found_at (most_controls job) (wires job) d 0 (entries_of lib) (sound_library job lib sound).sound i h)
 
--- a table that holds byte k of each entry
-abbrev Holds : List ℕ → ℕ → List ℕ → Type 0
-Holds lib k table = (i : ℕ) → i < length lib / 3 → get_or table i 0 ≡ get_or lib (3 * i + k) 0
-
-abbrev blank : Entry
-blank = record { gate = 0; price = 0; duration = 0 }
-
-module _ (job lib gates : List ℕ) (sound : library_code job lib ≡ 0) (long : length lib / 3 ≤ length gates) (held : Holds lib 0 gates) where
-  -- the gate in the table is the entry's
-  gate_is : (i : ℕ) → i < length lib / 3 → get_or gates i 0 ≡ (get_or (entries_of lib) i blank).gate
-  unfolding entry_at
-  gate_is i h =
-      let e : 3 * i + 0 ≡ 3 * i = omega arith in
-      held i h ∙ ap (λ (n : ℕ). get_or lib n 0) e ∙ sym (ap gate_in (entry_is lib i blank h))
-
-  listed : take (length lib / 3) gates ≡ gates_in lib
-  listed =
-      let count = length lib / 3 in
-      let l = length-take-le count gates long in
-      ext_get_or 0 (take count gates) (gates_in lib) (l ∙ sym (length_gates (entries_of lib) ∙ length_entries lib))
-      (λ i h.
-      let b : i < count = omega (arith, l) in
-      get_or-take count gates i 0 b ∙ gate_is i b ∙ sym (gate_at (entries_of lib) i blank (omega (arith, length_entries lib))))
-
-  pub lawful_column : Lawfuls job (take (length lib / 3) gates)
-  lawful_column = subst (Lawfuls job) (sym listed) (gates_lawful job lib (sound_library job lib sound).sound)
-
-  -- the entry of the gate in the table
-  entry_there : (i : ℕ) → i < length lib / 3 → entry_for (entries_of lib) (get_or gates i 0) ≡ entry_at lib i
-  entry_there i h =
-      ap (entry_for (entries_of lib)) (gate_is i h)
-      ∙ found_at (most_controls job) (wires job) blank 0 (entries_of lib) (sound_library job lib sound).sound i (omega (arith, length_entries lib))
-      ∙ entry_is lib i blank h
-
-  pub tabled : (prices durations : List ℕ) → Holds lib 1 prices → Holds lib 2 durations
-      → Tabled (set_in lib) gates prices durations (length lib / 3)
-  unfolding entry_at
-  tabled prices durations paid timed = record {
-    listed = listed;
-    priced = λ i h. paid i h ∙ sym (ap (λ (e : Entry). e.price) (entry_there i h));
-    timed = λ i h. timed i h ∙ sym (ap (λ (e : Entry). e.duration) (entry_there i h));
+  pub tabled : Tabled (set_in lib) (entries_of lib)
+  tabled = record {
+    listed = refl;
+    priced = λ i d h. ap (λ (e : Entry). e.price) (entry_own i d h);
+    timed = λ i d h. ap (λ (e : Entry). e.duration) (entry_own i d h);
   }

@@ -1,48 +1,49 @@
--- Two ways out: nothing found, and a record written to the start of the buffer.
-use mathlib.Core.Path.{◌≡◌, sym, ap, ◌∙◌}
-use Prim.Native.Nat.{◌+◌}
+use mathlib.Core.Path.{◌≡◌, refl, sym, ap, ◌∙◌}
+use mathlib.Core.Bool.{Bool}
+use mathlib.Core.List.{List, ◌++◌}
+use Prim.Native.Nat.{ℕ, ◌+◌}
 use native.Mathlib.Omega.{arith}
-use borrow.Author.Tests.{not-true, not-false}
 use borrow.Author.Rules.{rules}
-use lib.ListN.{length}
-use Rattle.logic.specs.Answers.{Answer}
-use Rattle.record.specs.job_fields.Jobs.{ancillas}
+use lib.ListN.{length, take, drop}
+use Rattle.logic.specs.Answers.{Answer, answered}
+use Rattle.circuit.specs.declared.measures.Measures.{Measures}
+use Rattle.record.specs.job_fields.Jobs.{longer, data_wires, ancillas}
+use Rattle.record.specs.circuit_fields.Circuits.{circuit_bytes}
 use Rattle.record.proofs.writing.Copied.{record_size_law}
-use Rattle.outcomes.specs.Outcomes.{Found, reported, written}
-use Rattle.outcomes.proofs.Answer.{missing, reached, told, wrote}
+use Rattle.problem.specs.order.View.{choice}
+use Rattle.outcomes.specs.Outcomes.{record_of}
+use Rattle.outcomes.specs.declared.Reported.{Reported}
 use Rattle.outcomes.proofs.tell.Goals as goal
-use Rattle.outcomes.proofs.tell.Goals.{Start}
 
--- the path of what was found has twelve places
-long : (s : Start) → length s.args.best.path ≡ 12
-long s = search rules
+-- the record that the code writes is the job's
+record_is : (job : List ℕ) (n m : ℕ) (mark : Bool) (p : ℕ) (l : List ℕ) → n ≡ data_wires job → m ≡ ancillas job → mark ≡ longer job
+    → circuit_bytes n m mark p l ≡ record_of job p l
+unfolding record_of
+record_is job n m mark p l hn hm hk = rw (hn, hm, hk) refl
 
-pub returns-then-not-best-clause-result_value : goal.returns-then-not-best-clause-result_value
-returns-then-not-best-clause-result_value c = let e = missing c.args.job.now c.args.best c.args.measures (not-true _ c.if-not-best.true) in sym (ap reported e)
-
-pub returns-then-not-best-clause-answer_after : goal.returns-then-not-best-clause-answer_after
-returns-then-not-best-clause-answer_after c = let e = missing c.args.job.now c.args.best c.args.measures (not-true _ c.if-not-best.true) in sym (ap (λ (o : Answer Found). written o c.args.answer.now) e)
+abbrev reply_with : ℕ → Measures → Answer Reported
+reply_with k m = answered (record { size = k; measures = m })
 
 pub write_record-size-requires : goal.write_record-size-requires
 unfolding ancillas
 write_record-size-requires c =
     let e = c.ancillas-m.ensures in
-    ((omega arith, omega arith), (c.requires.len_bound, c.requires.in_bounds))
+    ((omega arith, omega arith), (c.args.best.short, c.requires))
 
-pub returns-clause-result_value : goal.returns-clause-result_value
-returns-clause-result_value c =
-    let l = long (goal.at.returns-clause-result_value c).Start in
-    let n = c.requires.len_bound in
-    let e
-    = reached c.args.job.now c.args.best c.args.measures c.data_wires-n.result c.ancillas-m.result c.longer-mark.result c.data_wires-n.ensures.value
-    c.ancillas-m.ensures c.longer-mark.ensures (not-false _ c.if-not-best.false) in
-    let z = record_size_law c.data_wires-n.result c.ancillas-m.result c.longer-mark.result c.args.best.layout c.args.best.path c.args.best.len (omega arith) in told e c.write_record-size.result (c.write_record-size.ensures.value ∙ z)
-
-pub returns-clause-answer_after : goal.returns-clause-answer_after
-returns-clause-answer_after c =
-    let l = long (goal.at.returns-clause-answer_after c).Start in
-    let n = c.requires.len_bound in
-    let e
-    = reached c.args.job.now c.args.best c.args.measures c.data_wires-n.result c.ancillas-m.result c.longer-mark.result c.data_wires-n.ensures.value
-    c.ancillas-m.ensures c.longer-mark.ensures (not-false _ c.if-not-best.false) in
-    let z = record_size_law c.data_wires-n.result c.ancillas-m.result c.longer-mark.result c.args.best.layout c.args.best.path c.args.best.len (omega arith) in wrote e (3 + c.args.best.len) z c.args.answer.now _ c.write_record-size.ensures.answer_after
+pub returns : goal.returns
+unfolding choice
+returns c =
+    let long : length c.args.best.path ≡ 12 = search rules in
+    let short = c.args.best.short in
+    let is = record_is c.args.job.now c.data_wires-n.result c.ancillas-m.result c.longer-mark.result c.args.best.layout (take c.args.best.len c.args.best.path)
+        c.data_wires-n.ensures.value c.ancillas-m.ensures c.longer-mark.ensures in
+    let bytes = circuit_bytes c.data_wires-n.result c.ancillas-m.result c.longer-mark.result c.args.best.layout (take c.args.best.len c.args.best.path) in
+    let whole = record_size_law c.data_wires-n.result c.ancillas-m.result c.longer-mark.result c.args.best.layout c.args.best.path c.args.best.len (omega arith) in
+    let size = c.write_record-size.ensures.value ∙ whole ∙ ap length is in
+    record {
+      result_value = ap (λ (k : ℕ). reply_with k c.args.measures) size;
+      result_bound = omega arith;
+      answer_after = c.write_record-size.ensures.answer_after
+          ∙ ap (λ (k : ℕ). bytes ++ drop k c.args.answer.now) whole
+          ∙ ap (λ (l : List ℕ). l ++ drop (length l) c.args.answer.now) is;
+    }

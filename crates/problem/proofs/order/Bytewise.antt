@@ -1,90 +1,89 @@
--- Dictionary order by what is left of two lists: one byte of each, then the rest; and what is left at the end of either.
-use mathlib.Core.Path.{◌≡◌, ◌∙◌}
-use mathlib.Core.Bool.{Bool, true, false}
-use mathlib.Core.List.{List}
-use Prim.Native.Nat.{ℕ, ◌+◌, ◌≤◌, ◌<◌}
-use native.Mathlib.Decide.{dec_lt}
-use native.Mathlib.Numerals.{add-one}
-use native.Mathlib.Omega.{arith}
-use borrow.Author.Tests.{lt-ltb, le-ltb}
-use lib.Dec.{ltb}
-use lib.ListN.{length, take, drop, get_or, drop_of_length-le}
-use lib.Seq.{drop-cons, length-take-le, get_or-take}
+-- The library's order of tuples and of byte lists is the order of specs/order; and what an offer keeps.
+use Rattle.std.proofs.Common.{◌≡◌, ℕ, Bool, true, false, ltb, eqb, List, [], ◌∷◌, take, Option, Some, None, refl, ap, ◌∙◌, arith}
+use Rattle.std.specs.declared.cmp.Ordering.{Ordering}
+use Rattle.std.specs.declared.cmp.Ordering.TheVariants.{Less, Equal, Greater}
+use Rattle.std.specs.Ordering.{nat_cmp, is_lt, is_some_and, partial_ordering_then}
+use Rattle.std.specs.Cmp.Lexicographic.{slice_partial_cmp}
+use borrow.Author.Tests.{ltb-true, ltb-false, eqb-true, eqb-false}
 use Rattle.problem.specs.order.Choices.{lex_less, before, keep}
 use Rattle.problem.specs.declared.order.Best.{Best}
-use Rattle.problem.specs.order.Inner.{ordered}
+use Rattle.logic.specs.Rules.{pick}
 use Rattle.problem.specs.order.View.{choice, view}
 
-module _ (a b : List ℕ) (m n i : ℕ) (hm : m ≤ length a) (hn : n ≤ length b) where
-  lex_turn : i < m → i < n
-      → lex_less (drop i (take m a)) (drop i (take n b)) ≡ ordered (get_or a i 0) (get_or b i 0) (lex_less (drop (i + 1) (take m a)) (drop (i + 1) (take n b)))
-  unfolding lex_less
-  lex_turn h k =
-      let la = length-take-le m a hm in
-      let lb = length-take-le n b hn in
-      rw (add-one, drop-cons (take m a) i 0 (omega arith), drop-cons (take n b) i 0 (omega arith), get_or-take m a i 0 h, get_or-take n b i 0 k)
+abbrev less : Option Ordering → Bool
+less = is_some_and is_lt
 
-  -- the first list is longer than the second
-  pub lex_short : i < m → n ≤ i → lex_less (drop i (take m a)) (drop i (take n b)) ≡ false
-  unfolding lex_less
-  lex_short h k =
-      let la = length-take-le m a hm in
-      let lb = length-take-le n b hn in
-      let d : length (take n b) ≤ i = omega arith in
-      rw (drop-cons (take m a) i 0 (omega arith), drop_of_length-le (take n b) d)
+-- x is less than y, or they are equal and `rest` decides
+abbrev ordered : ℕ → ℕ → Bool → Bool
+ordered x y rest = pick (ltb x y) true (pick (ltb y x) false rest)
 
-  -- the first list is at its end
-  pub lex_end : m ≤ i → lex_less (drop i (take m a)) (drop i (take n b)) ≡ ltb i n
-  unfolding lex_less
-  lex_end h = by_length (dec_lt i n)
-    where
-      la : length (take m a) ≡ m
-      la = length-take-le m a hm
+abbrev compared : ℕ → ℕ → Option Ordering
+compared x y = Some (nat_cmp x y)
 
-      lb : length (take n b) ≡ n
-      lb = length-take-le n b hn
+-- one number of each decides, or the rest does
+one_key : (x y : ℕ) (rest : Option Ordering) → less (partial_ordering_then (compared x y) rest) ≡ ordered x y (less rest)
+one_key x y rest = by_order (ltb x y) (ltb y x) (eqb x y) refl refl refl
+  where
+    by_order : (a b e : Bool) → ltb x y ≡ a → ltb y x ≡ b → eqb x y ≡ e → less (partial_ordering_then (compared x y) rest) ≡ ordered x y (less rest)
+    by_order true b e p q r = rw p refl
+    by_order false true true p q r = absurd (omega (arith, eqb-true x y r, ltb-true y x q))
+    by_order false true false p q r = rw (p, q, r) refl
+    by_order false false true p q r = rw (p, q, r) refl
+    by_order false false false p q r = absurd (omega (arith, eqb-false x y r, ltb-false x y p, ltb-false y x q))
 
-      by_length : Dec (i < n) → lex_less (drop i (take m a)) (drop i (take n b)) ≡ ltb i n
-      by_length (yes k) =
-          let d : length (take m a) ≤ i = rw la h in
-          rw (drop_of_length-le (take m a) d, drop-cons (take n b) i 0 (rw lb k), lt-ltb i n k)
-      by_length (no k) =
-          let d : length (take m a) ≤ i = rw la h in
-          let e : length (take n b) ≤ i = rw lb (omega arith) in
-          rw (drop_of_length-le (take m a) d, drop_of_length-le (take n b) e, le-ltb i n (omega arith))
+then_then : (p q r : Option Ordering) → partial_ordering_then (partial_ordering_then p q) r ≡ partial_ordering_then p (partial_ordering_then q r)
+then_then None q r = refl
+then_then (Some Less) q r = refl
+then_then (Some Equal) q r = refl
+then_then (Some Greater) q r = refl
 
-  -- one byte of each decides
-  pub lex_less_law : i < m → i < n → get_or a i 0 < get_or b i 0 → lex_less (drop i (take m a)) (drop i (take n b)) ≡ true
-  lex_less_law h k l = lex_turn h k ∙ rw (lt-ltb (get_or a i 0) (get_or b i 0) l)
+in_turn : (a b c d e : Option Ordering)
+    → partial_ordering_then (partial_ordering_then (partial_ordering_then (partial_ordering_then a b) c) d) e
+    ≡ partial_ordering_then a (partial_ordering_then b (partial_ordering_then c (partial_ordering_then d e)))
+in_turn a b c d e =
+    then_then (partial_ordering_then (partial_ordering_then a b) c) d e ∙ then_then (partial_ordering_then a b) c (partial_ordering_then d e)
+    ∙ then_then a b (partial_ordering_then c (partial_ordering_then d e))
 
-  pub lex_more : i < m → i < n → get_or b i 0 < get_or a i 0 → lex_less (drop i (take m a)) (drop i (take n b)) ≡ false
-  lex_more h k l = lex_turn h k ∙ rw (le-ltb (get_or a i 0) (get_or b i 0) (omega arith), lt-ltb (get_or b i 0) (get_or a i 0) l)
+bytewise : (xs ys : List ℕ) → less (slice_partial_cmp compared xs ys) ≡ lex_less xs ys
+unfolding lex_less
+bytewise [] [] = refl
+bytewise [] (y ∷ ys) = refl
+bytewise (x ∷ xs) [] = refl
+bytewise (x ∷ xs) (y ∷ ys) = one_key x y (slice_partial_cmp compared xs ys) ∙ ap (ordered x y) (bytewise xs ys)
 
-  -- or the rest does
-  pub lex_rest : i < m → i < n → get_or a i 0 ≤ get_or b i 0 → get_or b i 0 ≤ get_or a i 0
-      → lex_less (drop i (take m a)) (drop i (take n b)) ≡ lex_less (drop (i + 1) (take m a)) (drop (i + 1) (take n b))
-  lex_rest h k l l' = lex_turn h k ∙ rw (le-ltb (get_or a i 0) (get_or b i 0) l', le-ltb (get_or b i 0) (get_or a i 0) l)
-
--- the five keys, the last one first
-pub keyed : (a b : Best) (bytes layout depth gates cost : Bool)
-    → bytes ≡ lex_less (take a.len a.path) (take b.len b.path)
-    → layout ≡ ordered a.layout b.layout bytes
-    → depth ≡ ordered a.depth b.depth layout
-    → gates ≡ ordered a.len b.len depth
-    → cost ≡ ordered a.cost b.cost gates
-    → cost ≡ before (choice a) (choice b)
+-- the five keys of two circuits, compared as tuples
+pub keyed : (a b : Best) (p q : List ℕ) → p ≡ take a.len a.path → q ≡ take b.len b.path
+    → less (partial_ordering_then (partial_ordering_then (partial_ordering_then (partial_ordering_then (compared a.cost b.cost) (compared a.len b.len))
+    (compared a.depth b.depth)) (compared a.layout b.layout)) (slice_partial_cmp compared p q)) ≡ before (choice a) (choice b)
 unfolding before choice lex_less
-keyed a b bytes layout depth gates cost h₁ h₂ h₃ h₄ h₅ = rw (h₅, h₄, h₃, h₂, h₁)
+keyed a b p q hp hq =
+    ap less (in_turn cost gates depth layout bytes)
+    ∙ one_key a.cost b.cost (partial_ordering_then gates (partial_ordering_then depth (partial_ordering_then layout bytes)))
+    ∙ ap (ordered a.cost b.cost) (one_key a.len b.len (partial_ordering_then depth (partial_ordering_then layout bytes))
+    ∙ ap (ordered a.len b.len) (one_key a.depth b.depth (partial_ordering_then layout bytes)
+    ∙ ap (ordered a.depth b.depth) (one_key a.layout b.layout bytes
+    ∙ ap (ordered a.layout b.layout) (bytewise p q ∙ rw (hp, hq) refl))))
+  where
+    cost : Option Ordering
+    cost = compared a.cost b.cost
 
--- offering a circuit, by what is held and which comes first
-pub offered_first : (best mine : Best) → best.found ≡ false → mine.found ≡ true → view mine ≡ keep (view best) (choice mine)
-unfolding view keep choice before
-offered_first best mine h k = rw (h, k)
+    gates : Option Ordering
+    gates = compared a.len b.len
 
-pub offered_before : (best mine : Best) → best.found ≡ true → mine.found ≡ true → before (choice mine) (choice best) ≡ true → view mine ≡ keep (view best) (choice mine)
-unfolding view keep choice before
-offered_before best mine h k f = rw (h, k, f)
+    depth : Option Ordering
+    depth = compared a.depth b.depth
 
-pub offered_after : (best mine : Best) → best.found ≡ true → before (choice mine) (choice best) ≡ false → view best ≡ keep (view best) (choice mine)
-unfolding view keep choice before
-offered_after best mine h f = rw (h, f)
+    layout : Option Ordering
+    layout = compared a.layout b.layout
+
+    bytes : Option Ordering
+    bytes = slice_partial_cmp compared p q
+
+-- what an offer keeps
+pub offered_before : (held mine : Best) → before (choice mine) (choice held) ≡ true → view (Some mine) ≡ keep (view (Some held)) (choice mine)
+unfolding view keep
+offered_before held mine f = rw f refl
+
+pub offered_after : (held mine : Best) → before (choice mine) (choice held) ≡ false → view (Some held) ≡ keep (view (Some held)) (choice mine)
+unfolding view keep
+offered_after held mine f = rw f refl

@@ -1,8 +1,8 @@
--- The incumbent, by its flag `found`; and which choices can no longer change it.
+-- Which choices can no longer change the incumbent.
 use mathlib.Core.Path.{◌≡◌, sym, ◌∙◌}
 use mathlib.Core.Bool.{Bool, true, false}
 use mathlib.Core.Logic.{⊎_elim}
-use mathlib.Core.Option.{none, some}
+use Rattle.std.specs.Prelude.{Some}
 use Prim.Native.Nat.{◌≤◌, ◌<◌}
 use native.Mathlib.Nat.{eq-or-lt_of_le}
 use Rattle.problem.specs.declared.order.Best.{Best}
@@ -10,15 +10,6 @@ use Rattle.problem.specs.order.Choices.{Choice, before, attempt}
 use Rattle.problem.specs.order.View.{choice, view}
 use Rattle.problem.proofs.order.Order.{lex_gt, lex_eq, by_cost, by_gates}
 use Rattle.problem.proofs.order.First.{attempt_after}
-
-module _ (b : Best) where
-  pub held_some : b.found ≡ true → view b ≡ some (choice b)
-  unfolding view
-  held_some f = rw f
-
-  pub held_none : b.found ≡ false → view b ≡ none
-  unfolding view
-  held_none f = rw f
 
 module _ (a b : Choice) where
   -- not before one that costs less
@@ -39,13 +30,13 @@ module _ (a b : Choice) where
   pub by_fewer : a.cost ≤ b.cost → a.gates < b.gates → before a b ≡ true
   by_fewer h k = ⊎_elim (λ (e : a.cost ≡ b.cost). by_gates a b e k) (λ (l : a.cost < b.cost). by_cost a b l) (eq-or-lt_of_le h)
 
-module _ (good : Choice → Bool) (c : Choice) (b : Best) (f : b.found ≡ true) where
+module _ (good : Choice → Bool) (c : Choice) (b : Best) where
   -- what costs more than what is held leaves it
-  pub dearer_left : b.cost < c.cost → attempt good (view b) c ≡ view b
-  unfolding choice
-  dearer_left h = rw (held_some b f) (attempt_after good c (choice b) (after_cost c (choice b) h))
+  pub dearer_left : b.cost < c.cost → attempt good (view (Some b)) c ≡ view (Some b)
+  unfolding view choice
+  dearer_left h = (attempt_after good c (choice b) (after_cost c (choice b) h))
 
   -- and so does what costs no less and has more gates
-  pub longer_left : b.cost ≤ c.cost → b.len < c.gates → attempt good (view b) c ≡ view b
-  unfolding choice
-  longer_left h k = rw (held_some b f) (attempt_after good c (choice b) (after_gates c (choice b) h k))
+  pub longer_left : b.cost ≤ c.cost → b.len < c.gates → attempt good (view (Some b)) c ≡ view (Some b)
+  unfolding view choice
+  longer_left h k = (attempt_after good c (choice b) (after_gates c (choice b) h k))

@@ -33,6 +33,11 @@ aim_at t n w = pick (ltb w n) (get_or t.value w 0) 0
 unfoldable pub aim_of : Wanted → ℕ → List ℕ
 aim_of t n = map (aim_at t n) (numbers_from 0 5)
 
+-- what a layout is tested for: every gate of the list has a mirror in it, and each wire has the factor of the wire that it is renamed to
+pub record Suits (gates factors : List ℕ) (n p : ℕ) : Type 0 where
+  pub mirrored : (i : ℕ) → i < length gates → (h : ℕ) × (Memᴰ h gates × (mirrors n p (get_or gates i 0) h ≡ true))
+  pub even : (w : ℕ) → w < 5 → get_or factors (wire_at n p w) 0 ≡ get_or factors w 0
+
 -- one filling serves every allowed layout: the gates are closed under it, and each wire has the same factor as the wire that it is renamed
 -- to
 pub record Sound (gates : List ℕ) (r : Reach) (n free : ℕ) : Type 0 where

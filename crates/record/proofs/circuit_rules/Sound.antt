@@ -42,6 +42,9 @@ module _ (c : List ℕ) where
       ⊎_elim (λ e. inl (eqb-true (data_wires c) 3 e)) (λ e. inr (eqb-true (data_wires c) 4 e))
       (either_cases (eqb (data_wires c) 3) (eqb (data_wires c) 4) (both_left d (both (leb (ancillas c) 1) (eqb (get_or c 0 0 / 2 % 4) 0)) h))
 
+  -- what the rules on the length and on byte 0 say for the rules that follow them
+  pub ruleset first_rules = (long_enough, data_cases)
+
   pub sound_circuit : circuit_code c ≡ 0 → SoundCircuit c
   unfolding circuit_code shape_ok
   sound_circuit h =

@@ -1,32 +1,21 @@
--- No search where parity rules every list out. Else the three tables are lent up to the last gate, and what is handed to the solver poses the problem of the job and these gates.
-use mathlib.Core.Path.{◌≡◌, sym, subst, ◌∙◌}
-use native.Mathlib.Omega.{arith}
-use borrow.Author.Rules.{rules}
-use lib.ListN.{length}
+-- No search where parity rules every list out. Else what is handed to the solver poses the problem of the job and these gates.
+use mathlib.Core.Path.{sym, subst, ◌∙◌}
 use Rattle.outcomes.specs.Outcomes.{problem_over}
 use Rattle.outcomes.specs.Inner.{Lawfuls}
 use Rattle.outcomes.proofs.Answer.{odd_nothing}
-use Rattle.search.proofs.Posed.{Handed, in_range, limited, sliced, posed}
+use Rattle.search.proofs.Posed.{Handed, in_range, limited, on_wires, posed}
 use Rattle.search.proofs.solve_among.Goals as goal
 use Rattle.search.proofs.solve_among.Goals.{After-task_of}
 
 -- what is handed over
-handed : (c : After-task_of) → (Handed c.args.job.now c.task_of.result c.args.gates c.args.prices c.args.durations c.args.count)
-handed c =
-    record {
-      sound = c.requires.job_value;
-      kept = c.requires.lawfuls;
-      tasked = c.task_of.ensures;
-      long = let l : length c.args.gates ≡ 75 = search rules in omega (arith, c.requires.count_bound);
-      long_paid = let l : length c.args.prices ≡ 75 = search rules in omega (arith, c.requires.count_bound);
-      long_held = let l : length c.args.durations ≡ 75 = search rules in omega (arith, c.requires.count_bound);
-    }
+handed : (c : After-task_of) → Handed c.args.job.now c.task_of.result c.args.entries.now
+handed c = record { sound = c.requires.job_value; kept = c.requires.lawfuls; tasked = c.task_of.ensures }
 
 pub returns-then-always_none-clause-result_value : goal.returns-then-always_none-clause-result_value
 returns-then-always_none-clause-result_value c = let odd = sym c.always_none.ensures ∙ c.if-always_none.true in (λ G t. c.nothing.ensures.0 ∙ sym (odd_nothing G c.args.job.now c.requires.job_value (subst (Lawfuls c.args.job.now) t.listed c.requires.lawfuls) odd))
 
-pub solve-requires-clause-slices : goal.solve-requires-clause-slices
-solve-requires-clause-slices c = sliced (handed (goal.at.solve-requires-clause-slices c).After-task_of)
+pub solve-requires-clause-known : goal.solve-requires-clause-known
+solve-requires-clause-known c = on_wires (handed (goal.at.solve-requires-clause-known c).After-task_of)
 
 pub solve-requires-clause-fair : goal.solve-requires-clause-fair
 solve-requires-clause-fair c = in_range (handed (goal.at.solve-requires-clause-fair c).After-task_of)

@@ -1,18 +1,19 @@
--- What a search is given: a filter with the slices, and a cost that nothing is below.
+-- What a search is given: a filter with the entries, and a cost that nothing is below.
 use mathlib.Core.List.{List}
 use Prim.Native.Nat.{ℕ}
 use native.Mathlib.Omega.{arith}
+use Rattle.problem.specs.declared.Entry.{Entry}
+use Rattle.problem.specs.Entries.{entry_gates}
 use Rattle.problem.specs.Problems.{Problem}
 use Rattle.problem.specs.Inner.{Dearer}
 use Rattle.bloom.specs.declared.hash.Reach.{Reach}
 use Rattle.reach_filter.specs.fill.Sieve.{Sieve}
 use Rattle.walk.specs.declared.node.Task.{Task}
-use Rattle.walk.specs.node.States.{Slices, Supplied}
+use Rattle.walk.specs.node.States.{OnWires, Supplied}
 
-pub supplied : (gates prices durations : List ℕ) (task : Task) (bits : List ℕ) (reach : Reach) → Slices gates prices durations
-    → Sieve bits reach gates task.controls task.wanted task.outputs task.free → Supplied gates prices durations task bits reach
-supplied gates prices durations task bits reach s f =
-    record { priced_all = s.priced_all; timed_all = s.timed_all; known = s.known; sieve = f }
+pub supplied : (entries : List Entry) (task : Task) (bits : List ℕ) (reach : Reach) → OnWires entries
+    → Sieve bits reach (entry_gates entries) task.controls task.wanted task.outputs task.free → Supplied entries task bits reach
+supplied entries task bits reach known sieve = record { known = known; sieve = sieve }
 
 module _ (P : Problem) where
   -- nothing costs less than 0

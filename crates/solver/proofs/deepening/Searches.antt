@@ -1,18 +1,21 @@
 -- One search after the other: what a cost buys, when only exact sums can be good, and the same task with another limit.
 use mathlib.Core.Path.{◌≡◌, sym, ◌∙◌, subst}
 use mathlib.Core.Bool.{true}
+use Rattle.std.specs.Prelude.{Option, Some, None, MatchOption}
 use mathlib.Core.List.Memᴰ
 use mathlib.Core.List.{List, [], Memᴰ}
 use Prim.Native.Nat.{ℕ, ◌≤◌, ◌<◌}
 use native.Mathlib.Omega.{arith}
 use lib.ListN.{length}
-use Rattle.logic.proofs.Members.{place_of, member_at}
+use Rattle.std.proofs.Math.Option.{none}
+use Rattle.problem.specs.declared.Entry.{Entry}
+use Rattle.problem.specs.Entries.{entry_prices}
 use Rattle.problem.specs.declared.order.Best.{Best}
 use Rattle.problem.specs.order.Choices.{Choice}
 use Rattle.problem.specs.order.View.{view}
 use Rattle.problem.specs.Problems.{Problem, choice_of, choices, good}
-use Rattle.problem.specs.Inner.{Past, Dearer, Shortest}
-use Rattle.problem.proofs.Limits.{past_below, found_cost}
+use Rattle.problem.specs.Inner.{looked_under, Past, Dearer, Shortest}
+use Rattle.problem.proofs.Limits.{past_below, past_next, shortest, found_cost}
 use Rattle.problem.proofs.Listed.{listed, unlisted, gates_are, cost_is, within_parts, within_joined}
 use Rattle.bounds.specs.budget.Afford.{buys}
 use Rattle.bounds.specs.sums.Sums.{Marked}
@@ -21,7 +24,13 @@ use Rattle.bounds.proofs.sums.Sums.{sums_marked}
 use Rattle.walk.specs.declared.node.Task.{Task}
 use Rattle.walk.specs.declared.node.Least.{Least}
 use Rattle.walk.specs.node.States.{Fair, Posed, Limited, Bounded, Exact}
-use Rattle.solver.specs.deepening.Deepening.{Counted, Priced, limited_to}
+use Rattle.walk.proofs.node.Entries.{entry_price}
+use Rattle.solver.specs.deepening.Deepening.{Counted, Deepened, Priced, limited_to}
+
+-- what a search comes to, told in other words whether it found something or not
+pub carried : {A A' : Type 0} {B B' : Best → Type 0} (r : Option Best) → (A → A') → ((b : Best) → B b → B' b) → MatchOption r A B → MatchOption r A' B'
+carried None f g h = f h
+carried (Some b) f g h = g b h
 
 -- the gates that a cost buys
 pub bought : (P : Problem) (least : Least) → Bounded P least → (limit : ℕ) (a : Choice) → Memᴰ a (choices P) → good P a ≡ true → a.cost ≤ limit
@@ -34,6 +43,13 @@ bought P least bounded limit a m h c =
     rw (gates_are P P.most_gates a i)
     (buys_most least.low least.extra P.gates P.price bounded.costs i.more i.among least.needs limit few
     (rw (cost_is P P.most_gates a i) at c) P.most_gates i.short)
+
+-- what a walk up to g gates comes to, where nothing good has fewer
+pub deepened : (P : Problem) (limit g : ℕ) → limit ≤ P.most_cost → g ≤ P.most_gates → (r : Option Best) → view r ≡ looked_under P limit [] g none
+    → Past P limit g → Deepened P limit g r
+unfolding view
+deepened P limit g hl hg None e past = past_next P limit g hl hg (sym e)
+deepened P limit g hl hg (Some b) e past = shortest P limit g b hl hg e past
 
 -- where no sums are given nothing is known of them
 pub no_sums : (P : Problem) (limit : ℕ) → Counted P limit []
@@ -61,20 +77,14 @@ pub fair_limited : (task : Task) (c : ℕ) → Fair task → Fair (limited_to ta
 unfolding limited_to
 fair_limited task c f = record { wide = f.wide; few = f.few }
 
-module _ (P : Problem) (task : Task) (gates prices durations : List ℕ) (posed : Posed P task gates prices durations) where
-  -- each gate's price is one of the slice
-  priced_in : length prices ≡ length gates → (g : ℕ) → Memᴰ g P.gates → Memᴰ (P.price g) prices
-  priced_in long g m =
-      let q = place_of g gates (rw posed.listed m) in
-      Memᴰ.cast (sym (posed.priced q.0 q.1.0 ∙ rw q.1.1)) (member_at prices q.0 (rw long q.1.0))
-
+module _ (P : Problem) (task : Task) (entries : List Entry) (posed : Posed P task entries) where
   -- what the sums and the costs tried so far tell of the next cost
-  pub counted_at : length prices ≡ length gates → (sums : List ℕ) (c : ℕ) → P.most_gates ≤ 12 → Marked prices P.most_gates sums → Dearer P c → Counted P c sums
-  counted_at long sums c few marked dear =
-      record { marked = sums_marked P.price P.gates prices sums P.most_gates (priced_in long) few marked; dear = λ some. dear }
+  pub counted_at : (sums : List ℕ) (c : ℕ) → P.most_gates ≤ 12 → Marked (entry_prices entries) P.most_gates sums → Dearer P c → Counted P c sums
+  counted_at sums c few marked dear =
+      record { marked = sums_marked P.price P.gates (entry_prices entries) sums P.most_gates (entry_price P task entries posed) few marked; dear = λ some. dear }
 
   -- another limit on cost changes nothing that is asked
-  pub posed_limited : (c : ℕ) → Posed P (limited_to task c) gates prices durations
+  pub posed_limited : (c : ℕ) → Posed P (limited_to task c) entries
   unfolding limited_to
   posed_limited c = record {
     asks = let a = posed.asks in record { fair = fair_limited task c a.fair; four = a.four; laid = a.laid; table = a.table; deep = a.deep; kinds = a.kinds };
@@ -84,15 +94,15 @@ module _ (P : Problem) (task : Task) (gates prices durations : List ℕ) (posed 
   }
 
   -- what a search at a cost below the incumbent's comes to
-  pub priced_below : (least : Least) → Bounded P least → Limited P task → (held : Best) → held.found ≡ true → Shortest P P.most_cost (view held) held.len
-      → (c : ℕ) → c < held.cost → (sums : List ℕ) → Counted P c sums → (t : Task) → t ≡ limited_to task c → (r : Best)
-      → (Posed P t gates prices durations → Bounded P least → t.cost_limit ≤ P.most_cost → t.gate_limit ≡ P.most_gates → Past P t.cost_limit held.len
+  pub priced_below : (least : Least) → Bounded P least → Limited P task → (held : Best) → Shortest P P.most_cost (view (Some held)) held.len
+      → (c : ℕ) → c < held.cost → (sums : List ℕ) → Counted P c sums → (t : Task) → t ≡ limited_to task c → (r : Option Best)
+      → (Posed P t entries → Bounded P least → t.cost_limit ≤ P.most_cost → t.gate_limit ≡ P.most_gates → Past P t.cost_limit held.len
       → Counted P t.cost_limit sums → Priced P t.cost_limit r)
       → Priced P c r
   unfolding limited_to
-  priced_below least bounded limited held f first c k sums counted t e r searched =
-      let below = found_cost P P.most_cost held (omega arith) f first in
+  priced_below least bounded limited held first c k sums counted t e r searched =
+      let below = found_cost P P.most_cost held (omega arith) first in
       subst
-      (λ (t : Task). (Posed P t gates prices durations → Bounded P least → t.cost_limit ≤ P.most_cost → t.gate_limit ≡ P.most_gates → Past P t.cost_limit held.len
+      (λ (t : Task). (Posed P t entries → Bounded P least → t.cost_limit ≤ P.most_cost → t.gate_limit ≡ P.most_gates → Past P t.cost_limit held.len
       → Counted P t.cost_limit sums → Priced P t.cost_limit r)) e searched (posed_limited c) bounded (omega arith) limited.gates_most
       (past_below P P.most_cost c held.len (omega arith) first.past) counted

@@ -4,6 +4,7 @@ use mathlib.Core.List.{[]}
 use Prim.Native.Nat.{ℕ, ◌+◌, ◌-◌}
 use native.Mathlib.Omega.{arith}
 use borrow.Author.Tests.{not-false}
+use Rattle.problem.specs.Entries.{entry_gates}
 use Rattle.problem.specs.Problems.{Problem}
 use Rattle.problem.proofs.Limits.{past_none}
 use Rattle.reach_filter.proofs.fill.Sieves.{no_sieve}
@@ -11,7 +12,7 @@ use Rattle.walk.specs.node.States.{Posed, Limited, Bounded, Supplied}
 use Rattle.solver.specs.deepening.Deepening.{Deepened}
 use Rattle.solver.specs.States.{Settled}
 use Rattle.solver.proofs.cheaper.Supplies.{supplied}
-use Rattle.solver.proofs.Handover.{deepened_held}
+use Rattle.solver.proofs.Handover.{settled_all, settled_at}
 use Rattle.solver.proofs.deepening.Searches.{no_sums}
 use Rattle.solver.proofs.solve.Goals as goal
 use Rattle.solver.proofs.solve.Goals.{After-fewest-held}
@@ -21,56 +22,59 @@ module _ (k : After-fewest-held) where
   abbrev most : ℕ
   most = k.early-most.result
 
-  fits : Supplied k.args.gates.now k.args.prices.now k.args.durations.now k.args.task [] k.no_filter-reach.result
+  fits : Supplied k.args.entries.now k.args.task [] k.no_filter-reach.result
   fits =
-      supplied k.args.gates.now k.args.prices.now k.args.durations.now k.args.task [] k.no_filter-reach.result k.requires.slices (no_sieve k.args.gates.now k.no_filter-reach.result k.args.task.controls k.args.task.wanted k.args.task.outputs k.args.task.free)
+      supplied k.args.entries.now k.args.task [] k.no_filter-reach.result k.requires.known (no_sieve (entry_gates k.args.entries.now) k.no_filter-reach.result k.args.task.controls k.args.task.wanted k.args.task.outputs k.args.task.free)
 
-  module _ (P : Problem) (posed : Posed P k.args.task k.args.gates.now k.args.prices.now k.args.durations.now) (limited : Limited P k.args.task) where
+  module _ (P : Problem) (posed : Posed P k.args.task k.args.entries.now) (limited : Limited P k.args.task) where
     bounded : Bounded P k.least_of-least.result
-    bounded = k.least_of-least.ensures.bounded P k.args.durations.now k.requires.slices.priced_all posed
+    bounded = k.least_of-least.ensures.bounded P posed
 
     deepened : Deepened P P.most_cost most k.fewest-held.result
     deepened =
         let e = k.early-most.ensures in
         subst (λ (l : ℕ). Deepened P l most k.fewest-held.result) limited.cost_most
-        (k.fewest-held.ensures.deepened P record { posed = posed; bounded = bounded } (omega (arith, limited.cost_most)) (omega (arith, limited.gates_most)) (past_none P k.args.task.cost_limit) (no_sums P k.args.task.cost_limit))
+        (k.fewest-held.ensures P record { posed = posed; bounded = bounded } (omega (arith, limited.cost_most)) (omega (arith, limited.gates_most)) (past_none P k.args.task.cost_limit) (no_sums P k.args.task.cost_limit))
 
 -- the search with a filter goes on one gate further
-further : (k : After-fewest-held) (P : Problem) → Posed P k.args.task k.args.gates.now k.args.prices.now k.args.durations.now
+further : (k : After-fewest-held) (P : Problem) → Posed P k.args.task k.args.entries.now
     → Limited P k.args.task → Deepened P P.most_cost (most k + 1 - 1) k.fewest-held.result
 further k P posed limited = subst (λ (l : ℕ). Deepened P P.most_cost l k.fewest-held.result) (omega arith) (deepened k P posed limited)
 
 pub fewest-held-requires-clause-supplied : goal.fewest-held-requires-clause-supplied
-fewest-held-requires-clause-supplied c = let e = c.early-most.ensures in supplied c.args.gates.now c.args.prices.now c.args.durations.now c.args.task [] c.no_filter-reach.result c.requires.slices (no_sieve c.args.gates.now c.no_filter-reach.result c.args.task.controls c.args.task.wanted c.args.task.outputs c.args.task.free)
+fewest-held-requires-clause-supplied c = let e = c.early-most.ensures in supplied c.args.entries.now c.args.task [] c.no_filter-reach.result c.requires.known (no_sieve (entry_gates c.args.entries.now) c.no_filter-reach.result c.args.task.controls c.args.task.wanted c.args.task.outputs c.args.task.free)
 
 pub settle-requires-clause-supplied : goal.settle-requires-clause-supplied
 settle-requires-clause-supplied c = fits (goal.at.settle-requires-clause-supplied c).After-fewest-held
 
-pub returns-then-limit-most-clause-result_value : goal.returns-then-limit-most-clause-result_value
-returns-then-limit-most-clause-result_value c =
+pub returns-then-limit-most : goal.returns-then-limit-most
+returns-then-limit-most c =
+    let k = (goal.at.returns-then-limit-most c).After-fewest-held in
     let short = c.if-limit-most.true in
-    let e = c.early-most.ensures in (λ P posed limited.
-    let m : most (goal.at.returns-then-limit-most-clause-result_value c).After-fewest-held ≡ P.most_gates = omega (arith, limited.gates_most) in
-    c.ended.ensures.result_value P (c.settle.ensures.settled P P.most_gates record { posed = posed; bounded = bounded (goal.at.returns-then-limit-most-clause-result_value c).After-fewest-held P posed limited } limited
-    (subst (λ (l : ℕ). Deepened P P.most_cost l c.fewest-held.result) m (deepened (goal.at.returns-then-limit-most-clause-result_value c).After-fewest-held P posed limited))))
-
-pub returns-then-not-held-clause-result_value : goal.returns-then-not-held-clause-result_value
-returns-then-not-held-clause-result_value c =
-    (λ P posed limited.
-    c.ended-then-not-held.ensures.result_value P (subst (λ (l : ℕ). Settled P l c.filtered.result) limited.gates_most
-    (c.filtered.ensures.settled P posed (bounded (goal.at.returns-then-not-held-clause-result_value c).After-fewest-held P posed limited) limited (further (goal.at.returns-then-not-held-clause-result_value c).After-fewest-held P posed limited))))
+    let e = c.early-most.ensures in λ P posed limited.
+    let m : most k ≡ P.most_gates = omega (arith, limited.gates_most) in
+    settled_all P c.settle.result (c.settle.ensures P P.most_gates record { posed = posed; bounded = bounded k P posed limited } limited
+    (subst (λ (l : ℕ). Deepened P P.most_cost l c.fewest-held.result) m (deepened k P posed limited)))
 
 pub settle-requires-then-near-clause-supplied : goal.settle-requires-then-near-clause-supplied
 settle-requires-then-near-clause-supplied c = fits (goal.at.settle-requires-then-near-clause-supplied c).After-fewest-held
 
-pub returns-then-near-clause-result_value : goal.returns-then-near-clause-result_value
-returns-then-near-clause-result_value c =
-    let found = not-false _ c.if-not-held.false in (λ P posed limited.
-    c.ended-then-near.ensures.result_value P (c.settle-then-near.ensures.settled P P.most_gates record { posed = posed; bounded = bounded (goal.at.returns-then-near-clause-result_value c).After-fewest-held P posed limited } limited
-    (deepened_held P P.most_cost (most (goal.at.returns-then-near-clause-result_value c).After-fewest-held) P.most_gates c.fewest-held.result found (deepened (goal.at.returns-then-near-clause-result_value c).After-fewest-held P posed limited))))
+pub returns-in_default : goal.returns-in_default
+returns-in_default c =
+    let k = (goal.at.returns-in_default c).After-fewest-held in λ P posed limited.
+    settled_at P c.args.task.gate_limit limited.gates_most c.filtered.result
+    (c.filtered.ensures P posed (bounded k P posed limited) limited
+    (subst (Deepened P P.most_cost (most k + 1 - 1)) c.in_default.is (further k P posed limited)))
 
-pub returns-clause-result_value : goal.returns-clause-result_value
-returns-clause-result_value c =
-    (λ P posed limited.
-    c.ended-2.ensures.result_value P (subst (λ (l : ℕ). Settled P l c.filtered-2.result) limited.gates_most
-    (c.filtered-2.ensures.settled P posed (bounded (goal.at.returns-clause-result_value c).After-fewest-held P posed limited) limited (further (goal.at.returns-clause-result_value c).After-fewest-held P posed limited))))
+pub returns-then-near : goal.returns-then-near
+returns-then-near c =
+    let k = (goal.at.returns-then-near c).After-fewest-held in λ P posed limited.
+    settled_all P c.settle-then-near.result (c.settle-then-near.ensures P P.most_gates record { posed = posed; bounded = bounded k P posed limited } limited
+    (subst (Deepened P P.most_cost (most k)) c.in-Some.is (deepened k P posed limited)))
+
+pub returns : goal.returns
+returns c =
+    let k = (goal.at.returns c).After-fewest-held in λ P posed limited.
+    settled_at P c.args.task.gate_limit limited.gates_most c.filtered-2.result
+    (c.filtered-2.ensures P posed (bounded k P posed limited) limited
+    (subst (Deepened P P.most_cost (most k + 1 - 1)) c.in-Some.is (further k P posed limited)))

@@ -1,5 +1,5 @@
 -- What one walk of the iterative deepening leaves to the next: on counts of gates, and on costs.
-use Rattle.std.specs.Prelude.{◌≡◌, true, false, List, ℕ, ◌+◌, ◌*◌, ◌≤◌, ◌<◌, length, get_or}
+use Rattle.std.specs.Prelude.{◌≡◌, List, ℕ, ◌+◌, ◌*◌, ◌≤◌, ◌<◌, length, get_or, Option, Some, MatchOption}
 use Rattle.logic.specs.Lists.{Among}
 use Rattle.circuit.specs.Measure.{cost}
 use Rattle.problem.specs.Problems.{Problem, first_good}
@@ -15,19 +15,16 @@ pub record Counted (P : Problem) (limit : ℕ) (sums : List ℕ) : Type 0 where
   pub dear : 0 < length sums → Dearer P limit
 
 -- what deepening on gates, up to `most` of them, comes to: everything good within the limit has more, or the first of the shortest lists
-pub record Deepened (P : Problem) (limit most : ℕ) (r : Best) : Type 0 where
-  pub failed : r.found ≡ false → Past P limit (most + 1)
-  pub first : r.found ≡ true → Shortest P limit (view r) r.len
+abbrev pub Deepened : Problem → ℕ → ℕ → Option Best → Type 0
+Deepened P limit most r = MatchOption r (Past P limit (most + 1)) (λ b. Shortest P limit (view (Some b)) b.len)
 
 -- what a search at one cost, the limit, comes to: everything good costs more, or the first of the shortest lists
-pub record Priced (P : Problem) (limit : ℕ) (r : Best) : Type 0 where
-  pub failed : r.found ≡ false → Dearer P (limit + 1)
-  pub first : r.found ≡ true → Shortest P limit (view r) r.len
+abbrev pub Priced : Problem → ℕ → Option Best → Type 0
+Priced P limit r = MatchOption r (Dearer P (limit + 1)) (λ b. Shortest P limit (view (Some b)) b.len)
 
 -- what deepening on cost, below `to`, comes to: nothing good costs less than `to`, or the first good choice
-pub record Cheapened (P : Problem) (to : ℕ) (r : Best) : Type 0 where
-  pub failed : r.found ≡ false → Dearer P to
-  pub first : r.found ≡ true → view r ≡ first_good P
+abbrev pub Cheapened : Problem → ℕ → Option Best → Type 0
+Cheapened P to r = MatchOption r (Dearer P to) (λ b. view (Some b) ≡ first_good P)
 
 -- the task with another limit on cost
 unfoldable pub limited_to : Task → ℕ → Task

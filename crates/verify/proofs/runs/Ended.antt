@@ -1,5 +1,5 @@
 -- A run that is not refused ends with a byte, which is what the published gate definitions give; and no run is refused with 11.
-use mathlib.Core.Path.{◌≡◌, ◌∙◌}
+use mathlib.Core.Path.{◌≡◌, sym, ◌∙◌}
 use mathlib.Core.Bool.{Bool, true, false}
 use mathlib.Core.List.{List}
 use Prim.Native.Nat.{ℕ, ◌^◌, ◌<◌}
@@ -40,6 +40,14 @@ module _ (c : List ℕ) where
       let p = run_parts v h in
       lt_of_lt_of_le (stays_back (controls_of c) (wires c) (gates c) v (sound_circuit c p.0).kept p.1)
       (pow_mono (circuit_wires_within c p.0).1)
+
+  pub forwards_small : (v : ℕ) → 0 ≡ run_code c v → forwards (gates c) v < 32
+  forwards_small v h = ran_small true v (sym h)
+
+  pub backwards_small : (v : ℕ) → 0 ≡ run_code c v → backwards (gates c) v < 32
+  backwards_small v h = ran_small false v (sym h)
+
+  pub ruleset small_ends = (forwards_small, backwards_small)
 
   -- Demand 2: a run that is answered gives what the published gate definitions give, gate after gate.
   module _ (v u : ℕ) where

@@ -1,17 +1,10 @@
 -- What running a circuit on a value answers.
 use Rattle.std.specs.Prelude.{Bool, true, false, List, ℕ}
 use Rattle.logic.specs.Rules.{pick}
-use Rattle.logic.specs.Answers.{Answer, refused, answered, answer_of}
+use Rattle.logic.specs.Answers.{Answer, answer_of}
 use Rattle.circuit.specs.run.Run.{forwards, backwards}
 use Rattle.record.specs.circuit_fields.Circuits.{gates}
-use Rattle.verify.specs.declared.runs.Ran.{Ran}
-use Rattle.verify.specs.declared.runs.Ran.TheVariants.{Value}
 use Rattle.record.specs.pair_codes.Codes.{run_code}
-
--- document 01's number of each refusal, and the value of the other case
-abbrev pub ran_answer : Ran → Answer ℕ
-ran_answer (Ran.Refused code) = refused code
-ran_answer (Value v) = answered v
 
 -- forwards for true, backwards for false
 unfoldable pub run_of : Bool → List ℕ → ℕ → Answer ℕ

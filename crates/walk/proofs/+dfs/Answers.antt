@@ -2,14 +2,13 @@
 -- and the lists that go on by the gate.
 use mathlib.Core.Path.{◌≡◌, refl, sym, ap, ◌∙◌, subst}
 use mathlib.Core.Logic.{inl, inr, ⊎_elim}
-use mathlib.Core.List.{List, ◌++◌, flat_map, Memᴰ}
+use mathlib.Core.List.{List, ◌++◌, flat_map}
 use mathlib.Core.Option.{Option}
 use Prim.Native.Nat.{ℕ, ◌+◌, ◌-◌, ◌≤◌, ◌<◌}
 use native.Mathlib.Omega.{arith}
 use borrow.Author.Tests.{ltb-true}
 use lib.ListN.{length, get_or}
 use Rattle.logic.proofs.Chain.{either_cases}
-use Rattle.logic.proofs.Members.{member_at}
 use Rattle.gate.specs.Gates.{target_of}
 use Rattle.problem.specs.order.Choices.{Choice, improve}
 use Rattle.problem.specs.order.View.{view}
@@ -24,38 +23,39 @@ use Rattle.walk.specs.declared.node.Task.{Task}
 use Rattle.walk.specs.declared.node.Node.{Node}
 use Rattle.problem.specs.declared.Entry.{Entry}
 use Rattle.walk.specs.node.States.{list_of, needless, Given, At, Exact, Lists}
+use Rattle.walk.proofs.node.Entries.{entry_lists, entry_place, entry_gate, entry_count}
 use Rattle.walk.proofs.node.Nodes.{five_columns}
 use Rattle.walk.proofs.node.Pruning.{far, shut, not_worth}
 use Rattle.walk.proofs.node.Exactly.{exact_next}
 use Rattle.walk.proofs.+dfs.Goals as goal
 use Rattle.walk.proofs.+dfs.Goals.{Joined-eligible, then-eligible+then-promising, then-eligible+else-promising, else-eligible}
 
-pub returns-then-impossible-clause-result_value : goal.returns-then-impossible-clause-result_value
-returns-then-impossible-clause-result_value t c =
+pub returns-then-impossible : goal.returns-then-impossible
+returns-then-impossible t c =
     λ P given at exact.
     sym (spared needless P c.args.setup.task.cost_limit (list_of c.args.tree.node) c.args.tree.remaining (view c.args.best)
     (c.impossible.ensures c.if-impossible.true P (list_of c.args.tree.node) at.paid exact (view c.args.best)))
 
-pub returns-then-either-clause-result_value : goal.returns-then-either-clause-result_value
-returns-then-either-clause-result_value t c =
+pub returns-then-either : goal.returns-then-either
+returns-then-either t c =
     λ P given at exact.
     far P c.args.setup.task c.args.tree.node given.posed.asks at c.args.setup.task.cost_limit c.args.tree.remaining c.affordable-most.result
     (view c.args.best) (c.affordable-most.ensures.enough P given.bounded at)
     (⊎_elim (λ h. inl (omega (arith, ltb-true c.affordable-most.result c.plan_of-plan.result.lost h, c.plan_of-plan.ensures.lost_value)))
     (λ h. inr (ltb-true _ _ h)) (either_cases _ _ (sym c.either.ensures ∙ c.if-either.true)))
 
-pub returns-then-most-eq0-clause-result_value : goal.returns-then-most-eq0-clause-result_value
-returns-then-most-eq0-clause-result_value t c =
+pub returns-then-most-eq0 : goal.returns-then-most-eq0
+returns-then-most-eq0 t c =
     λ P given at exact.
     walk_stop needless P c.args.setup.task.cost_limit (list_of c.args.tree.node) c.args.tree.remaining c.affordable-most.result
     (view c.args.best) (view c.consider_met-b.result) (c.affordable-most.ensures.enough P given.bounded at) c.if-most-eq0.true
-    (c.consider_met-b.ensures.result_value P given.posed.asks at)
+    (c.consider_met-b.ensures P given.posed.asks at)
 
-pub loop-i-init : goal.loop-i-init
+pub loop-entry-init : goal.loop-entry-init
 unfolding improve flat_map
-loop-i-init t c =
+loop-entry-init t c =
     let z = c.if-most-eq0.false in
-    (omega arith, (omega arith, (c.consider_met-b.ensures.len_bound_2, λ P given at exact. refl)))
+    (omega arith, λ P given at exact. refl)
 
 -- what is known in a turn of the loop
 module _ (t : ℕ) (c : Joined-eligible t) where
@@ -75,112 +75,99 @@ module _ (t : ℕ) (c : Joined-eligible t) where
   most = c.affordable-most.result
 
   abbrev entry : Entry
-  entry = record {
-    gate = get_or c.args.gates.now c.loop-i.i 0;
-    price = get_or c.args.prices.now c.loop-i.i 0;
-    duration = get_or c.args.durations.now c.loop-i.i 0;
-  }
+  entry = get_or c.args.entries.now c.loop-entry.entry-index (record { gate = 0; price = 0; duration = 0 })
 
-  index : c.loop-i.i < length c.args.gates.now
-  index = c.loop-i-test.true
+  index : c.loop-entry.entry-index < length c.args.entries.now
+  index = c.loop-entry-test.true
 
   some : 1 ≤ most
-  some = c.loop-i.invariant.1.0
+  some = c.loop-entry.invariant.0
 
   some_left : 1 ≤ remaining
   some_left = let a = c.affordable-most.ensures.upper_bound in let m = some in omega arith
 
   tried_target : target_of entry.gate < 5
-  tried_target = c.requires.supplied.known c.loop-i.i index
+  tried_target = c.requires.supplied.known c.loop-entry.entry-index _ index
 
-  module _ (P : Problem) (given : Given P c.args.setup c.args.gates.now c.args.prices.now c.args.durations.now)
+  module _ (P : Problem) (given : Given P c.args.setup c.args.entries.now)
       (at : At P node) (exact : Exact P limit (list_of node) remaining c.args.sums.now) where
     tried_is : Lists P entry
-    tried_is = record {
-      listed = subst (λ (l : List ℕ). Memᴰ entry.gate l) given.posed.listed (member_at c.args.gates.now c.loop-i.i index);
-      priced = given.posed.priced c.loop-i.i index;
-      timed = given.posed.timed c.loop-i.i index;
-    }
+    tried_is = entry_lists P task c.args.entries.now given.posed c.loop-entry.entry-index _ index
 
     sieve_is : Sieve c.args.bits.now c.args.setup.reach P.gates task.controls task.wanted task.outputs task.free
     sieve_is = subst (λ (gs : List ℕ). Sieve c.args.bits.now c.args.setup.reach gs task.controls task.wanted task.outputs task.free)
         given.posed.listed c.requires.supplied.sieve
 
     -- the incumbent before the turn comes from the one at the start
-    enough : Enough P limit (list_of node) remaining most (view c.loop-i.b)
+    enough : Enough P limit (list_of node) remaining most (view c.loop-entry.b)
     enough =
         enough_since P limit (list_of node) remaining most (view c.args.best) (c.affordable-most.ensures.enough P given.bounded at)
-        (view c.loop-i.b) (here P (list_of node) ++ branches needless (here P) P.gates (list_of node) (remaining - 1) c.loop-i.i)
-        (c.loop-i.invariant.1.1.1 P given at exact
-        ∙ ap (λ (x : Option Choice). improve (within P limit) x (branches needless (here P) P.gates (list_of node) (remaining - 1) c.loop-i.i))
-        (c.consider_met-b.ensures.result_value P given.posed.asks at)
+        (view c.loop-entry.b) (here P (list_of node) ++ branches needless (here P) P.gates (list_of node) (remaining - 1) c.loop-entry.entry-index)
+        (c.loop-entry.invariant.1 P given at exact
+        ∙ ap (λ (x : Option Choice). improve (within P limit) x (branches needless (here P) P.gates (list_of node) (remaining - 1) c.loop-entry.entry-index))
+        (c.consider_met-b.ensures P given.posed.asks at)
         ∙ sym (improve_append (within P limit) (view c.args.best) (here P (list_of node)) _))
 
     -- one gate more, whichever way it went
-    turned : (y : Option Choice) → y ≡ tried_by needless P limit (list_of node) (remaining - 1) entry.gate (view c.loop-i.b)
-        → y ≡ improve (within P limit) (view c.consider_met-b.result) (branches needless (here P) P.gates (list_of node) (remaining - 1) (c.loop-i.i + 1))
+    turned : (y : Option Choice) → y ≡ tried_by needless P limit (list_of node) (remaining - 1) entry.gate (view c.loop-entry.b)
+        → y ≡ improve (within P limit) (view c.consider_met-b.result) (branches needless (here P) P.gates (list_of node) (remaining - 1) (c.loop-entry.entry-index + 1))
     turned y e =
-        walk_turn needless P limit (list_of node) (remaining - 1) c.loop-i.i (view c.consider_met-b.result) (view c.loop-i.b) y
-        (rw given.posed.listed at index) (c.loop-i.invariant.1.1.1 P given at exact)
-        (e ∙ ap (λ (g : List ℕ). tried_by needless P limit (list_of node) (remaining - 1) (get_or g c.loop-i.i 0) (view c.loop-i.b)) given.posed.listed)
+        walk_turn needless P limit (list_of node) (remaining - 1) c.loop-entry.entry-index (view c.consider_met-b.result) (view c.loop-entry.b) y
+        (entry_place P task c.args.entries.now given.posed c.loop-entry.entry-index index) (c.loop-entry.invariant.1 P given at exact)
+        (e ∙ ap (λ (g : ℕ). tried_by needless P limit (list_of node) (remaining - 1) g (view c.loop-entry.b))
+        (sym (entry_gate P task c.args.entries.now given.posed c.loop-entry.entry-index _ index)))
 
   -- what the turn comes to, by each of its three ways
-  turn : (c.if-eligible.b.len ≤ 12)
-      × ((P : Problem) → Given P c.args.setup c.args.gates.now c.args.prices.now c.args.durations.now → At P node
+  turn : (P : Problem) → Given P c.args.setup c.args.entries.now → At P node
       → Exact P limit (list_of node) remaining c.args.sums.now
-      → view c.if-eligible.b ≡ tried_by needless P limit (list_of node) (remaining - 1) entry.gate (view c.loop-i.b))
+      → view c.if-eligible.b ≡ tried_by needless P limit (list_of node) (remaining - 1) entry.gate (view c.loop-entry.b)
   turn =
       elim c.if-eligible.branch [
         | then-eligible+then-promising w ↦ (
-          rw w.b-is w.dfs-found.ensures.len_bound,
-          λ P given at exact.
-              let f = w.advance.ensures.follows P given.posed.asks at (tried_is P given at exact) c.table_of-table.ensures in
-              let x = exact_next P limit (list_of node) remaining c.args.sums.now exact entry.gate (tried_is P given at exact).listed some_left in
-              ap view w.b-is
-              ∙ w.dfs-found.ensures.result_value P given f.at
-              (subst (λ (l : List ℕ). Exact P limit l (remaining - 1) c.args.sums.now) (sym f.longer) x)
-              ∙ ap (λ (l : List ℕ). tried_under needless P limit l (remaining - 1) (view c.loop-i.b)) f.longer
-              ∙ by_entering needless P limit (list_of node) (remaining - 1) entry.gate (view c.loop-i.b)
-              (w.promising.ensures.gate_value P given.posed.asks at (tried_is P given at exact) c.table_of-table.ensures w.if-promising.true),
-        )
+            λ P given at exact.
+            let f = w.advance.ensures.follows P given.posed.asks at (tried_is P given at exact) c.table_of-table.ensures in
+            let x = exact_next P limit (list_of node) remaining c.args.sums.now exact entry.gate (tried_is P given at exact).listed some_left in
+            ap view w.b-is
+            ∙ w.dfs-b.ensures P given f.at
+            (subst (λ (l : List ℕ). Exact P limit l (remaining - 1) c.args.sums.now) (sym f.longer) x)
+            ∙ ap (λ (l : List ℕ). tried_under needless P limit l (remaining - 1) (view c.loop-entry.b)) f.longer
+            ∙ by_entering needless P limit (list_of node) (remaining - 1) entry.gate (view c.loop-entry.b)
+            (w.promising.ensures.gate_value P given.posed.asks at (tried_is P given at exact) c.table_of-table.ensures w.if-promising.true)
+            )
         | then-eligible+else-promising w ↦ (
-          rw w.b-is c.loop-i.invariant.1.1.0,
-          λ P given at exact.
-              ap view w.b-is
-              ∙ w.promising.ensures.passed P remaining given.posed.asks at (tried_is P given at exact) c.table_of-table.ensures some_left
-              (enough P given at exact) (sieve_is P given at exact) w.if-promising.false,
-        )
+            λ P given at exact.
+            ap view w.b-is
+            ∙ w.promising.ensures.passed P remaining given.posed.asks at (tried_is P given at exact) c.table_of-table.ensures some_left
+            (enough P given at exact) (sieve_is P given at exact) w.if-promising.false
+            )
         | else-eligible w ↦ (
-          rw w.b-is c.loop-i.invariant.1.1.0,
-          λ P given at exact.
-              ap view w.b-is
-              ∙ ⊎_elim
-              (λ z.
-              shut P task node given.posed.asks at limit entry.gate remaining most (view c.loop-i.b)
-              (tried_is P given at exact).listed some_left some (enough P given at exact)
-              c.args.bits.now c.args.setup.reach (sieve_is P given at exact) c.open_wires-wires.result c.open_wires-wires.ensures tried_target z)
-              (λ z.
-              not_worth P task node given.posed.asks at limit entry.gate remaining most (view c.loop-i.b)
-              (tried_is P given at exact).listed some_left some (enough P given at exact) z)
-              (c.eligible.ensures w.if-eligible.false task.controls task.wanted node.columns given.posed.asks.fair.few
-              (given.posed.asks.kinds entry.gate (tried_is P given at exact).listed) (five_columns P node at) c.table_of-table.ensures
-              c.plan_of-plan.ensures.value),
-        )
+            λ P given at exact.
+            ap view w.b-is
+            ∙ ⊎_elim
+            (λ z.
+            shut P task node given.posed.asks at limit entry.gate remaining most (view c.loop-entry.b)
+            (tried_is P given at exact).listed some_left some (enough P given at exact)
+            c.args.bits.now c.args.setup.reach (sieve_is P given at exact) c.open_wires-wires.result c.open_wires-wires.ensures tried_target z)
+            (λ z.
+            not_worth P task node given.posed.asks at limit entry.gate remaining most (view c.loop-entry.b)
+            (tried_is P given at exact).listed some_left some (enough P given at exact) z)
+            (c.eligible.ensures w.if-eligible.false task.controls task.wanted node.columns given.posed.asks.fair.few
+            (given.posed.asks.kinds entry.gate (tried_is P given at exact).listed) (five_columns P node at) c.table_of-table.ensures
+            c.plan_of-plan.ensures.value)
+            )
       ]
 
-pub loop-i-preserved : goal.loop-i-preserved
-loop-i-preserved t c =
-    let r = turn t c in (
-      omega arith,
-      (c.loop-i.invariant.1.0, (r.0, λ P given at exact. turned t c P given at exact (view c.if-eligible.b) (r.1 P given at exact))),
-    )
+pub loop-entry-preserved : goal.loop-entry-preserved
+loop-entry-preserved t c =
+    (c.loop-entry.invariant.0, λ P given at exact. turned t c P given at exact (view c.if-eligible.b) (turn t c P given at exact))
 
-pub returns-clause-result_value : goal.returns-clause-result_value
-returns-clause-result_value t c =
-    let q : c.loop-i.i ≡ length c.args.gates.now = let x = c.loop-i.invariant.0 in let y = c.loop-i-test.false in omega arith in
-    let k = c.loop-i.invariant.1.0 in
+pub returns : goal.returns
+returns t c =
+    let q : c.loop-entry.entry-index ≡ length c.args.entries.now = let y = c.loop-entry-test.false in omega arith in
+    let k = c.loop-entry.invariant.0 in
     let m = c.affordable-most.ensures.upper_bound in
     λ P given at exact.
     walk_end needless P c.args.setup.task.cost_limit (list_of c.args.tree.node) c.args.tree.remaining (view c.args.best)
-    (view c.consider_met-b.result) (view c.loop-i.b) (omega arith)
-    (c.consider_met-b.ensures.result_value P given.posed.asks at) (rw (q, given.posed.listed) at (c.loop-i.invariant.1.1.1 P given at exact))
+    (view c.consider_met-b.result) (view c.loop-entry.b) (omega arith)
+    (c.consider_met-b.ensures P given.posed.asks at)
+    (rw (q, entry_count P c.args.setup.task c.args.entries.now given.posed) at (c.loop-entry.invariant.1 P given at exact))

@@ -3,6 +3,7 @@
 use Rattle.std.specs.Prelude.{◌≡◌, Bool, true, ℕ, ◌+◌, ◌-◌, ◌*◌, ◌≤◌, ◌<◌, length, get_or, take}
 use mathlib.Core.List.{List, [], ◌∷◌, ◌++◌, Memᴰ}
 use Rattle.std.proofs.Math.Option.{Option}
+use Rattle.std.specs.List.{All}
 use Rattle.logic.specs.Lists.{Among}
 use Rattle.gate.specs.Gates.{target_of, lawful}
 use Rattle.circuit.specs.Measure.{cost, ready_times}
@@ -24,23 +25,20 @@ use Rattle.walk.specs.declared.node.Least.{Least}
 use Rattle.walk.specs.declared.node.Setup.{Setup}
 use Rattle.walk.specs.declared.node.Node.{Node}
 use Rattle.problem.specs.declared.Entry.{Entry}
+use Rattle.problem.specs.Entries.{entry_gates}
 
 -- the gate list of a node
 abbrev pub list_of : Node → List ℕ
 list_of s = take s.len s.path
 
--- slices of gates, prices and durations: one length, and each gate's target one of the five wires
-pub record Slices (gates prices durations : List ℕ) : Type 0 where
-  pub priced_all : length prices ≡ length gates
-  pub timed_all : length durations ≡ length gates
-  pub known : (i : ℕ) → i < length gates → target_of (get_or gates i 0) < 5
+-- each entry's gate has its target on one of the five wires
+abbrev pub OnWires : List Entry → Type 0
+OnWires entries = All (λ (e : Entry). target_of e.gate < 5) entries
 
--- such slices, and a filter that rules out no state from which the gates can still realize the task's table
-pub record Supplied (gates prices durations : List ℕ) (task : Task) (bits : List ℕ) (reach : Reach) : Type 0 where
-  pub priced_all : length prices ≡ length gates
-  pub timed_all : length durations ≡ length gates
-  pub known : (i : ℕ) → i < length gates → target_of (get_or gates i 0) < 5
-  pub sieve : Sieve bits reach gates task.controls task.wanted task.outputs task.free
+-- such entries, and a filter that rules out no state from which their gates can still realize the task's table
+pub record Supplied (entries : List Entry) (task : Task) (bits : List ℕ) (reach : Reach) : Type 0 where
+  pub known : OnWires entries
+  pub sieve : Sieve bits reach (entry_gates entries) task.controls task.wanted task.outputs task.free
 
 -- a node's list has room for twelve gates, and its ready times and cost fit their words
 pub record Small (s : Node) : Type 0 where
@@ -75,12 +73,12 @@ pub record Asks (P : Problem) (task : Task) : Type 0 where
   pub deep : task.depth_limit ≡ P.most_depth
   pub kinds : (g : ℕ) → Memᴰ g P.gates → lawful task.controls 5 g ≡ true
 
--- the task asks what the problem does, and the slices are the problem's gates with their prices and durations
-pub record Posed (P : Problem) (task : Task) (gates prices durations : List ℕ) : Type 0 where
+-- the task asks what the problem does, and the entries are the problem's gates with their prices and durations
+pub record Posed (P : Problem) (task : Task) (entries : List Entry) : Type 0 where
   pub asks : Asks P task
-  pub listed : gates ≡ P.gates
-  pub priced : (i : ℕ) → i < length gates → get_or prices i 0 ≡ P.price (get_or gates i 0)
-  pub timed : (i : ℕ) → i < length gates → get_or durations i 0 ≡ P.duration (get_or gates i 0)
+  pub listed : entry_gates entries ≡ P.gates
+  pub priced : All (λ (e : Entry). e.price ≡ P.price e.gate) entries
+  pub timed : All (λ (e : Entry). e.duration ≡ P.duration e.gate) entries
 
 -- the task's limits on gates and cost are the problem's own
 pub record Limited (P : Problem) (task : Task) : Type 0 where
@@ -93,8 +91,8 @@ pub record Bounded (P : Problem) (least : Least) : Type 0 where
   pub needed : Needs P [] least.needs
 
 -- the problem is posed to a walk, and the walk's lower bounds hold for it
-pub record Given (P : Problem) (setup : Setup) (gates prices durations : List ℕ) : Type 0 where
-  pub posed : Posed P setup.task gates prices durations
+pub record Given (P : Problem) (setup : Setup) (entries : List Entry) : Type 0 where
+  pub posed : Posed P setup.task entries
   pub bounded : Bounded P setup.least
 
 -- a node's columns, ready times, cost, lower bound and marks are those that its list leads to

@@ -1,14 +1,16 @@
-use Prim.Native.Nat.{◌/◌}
-use native.Mathlib.Omega.{arith}
+use Rattle.std.proofs.Common.{◌/◌, ◌%◌, eqb, length, refl}
 use borrow.Author.Tests.{le-leb, lt-leb}
-use lib.ListN.{length}
+use Rattle.logic.specs.Bit.{bit_of}
+use Rattle.logic.proofs.Chains.{and_both}
 use Rattle.bloom.specs.bits.Places.{lit_at}
 use Rattle.bloom.proofs.bits.lit.Goals as goal
 
-pub returns-then-i-bits : goal.returns-then-i-bits
+pub returns-in-Some : goal.returns-in-Some
 unfolding lit_at
-returns-then-i-bits c = rw (lt-leb _ _ c.if-i-bits.true) c.both.ensures
+returns-in-Some c =
+    let read = c.in-Some.ensures.lookup in
+    rw (lt-leb (length c.args.bits.now) (c.args.k / 4096) read.3.0, ← read.3.1 0) (and_both (eqb (bit_of (c.args.k / 64 % 64) c.in-Some.word.now) 1) (eqb (bit_of (c.args.k % 64) c.in-Some.word.now) 1))
 
-pub returns-else-i-bits : goal.returns-else-i-bits
+pub returns-in-None : goal.returns-in-None
 unfolding lit_at
-returns-else-i-bits c = rw (le-leb (length c.args.bits.now) (c.args.k / 4096) (omega arith))
+returns-in-None c = rw (le-leb (length c.args.bits.now) (c.args.k / 4096) c.in-None.ensures.lookup.3) refl

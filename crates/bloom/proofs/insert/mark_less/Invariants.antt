@@ -7,7 +7,4 @@ use Rattle.bloom.specs.bits.Places.{key_of, lit_at, Grown}
 use Rattle.bloom.proofs.insert.mark_less.Given as goal
 
 abbrev pub invariant-loop-w : goal.invariant-loop-w
-invariant-loop-w l = (l.w ≤ l.count) × ((length l.bits ≡ length l.initial.bits) × (Grown l.initial.bits l.bits × ((v : ℕ) → v < l.w → (v ≡ l.but → ⊥) → lit_at l.bits (key_of l.size (l.hash - get_or l.shares v 0)) ≡ true)))
-
-abbrev pub decreases-loop-w : goal.decreases-loop-w
-decreases-loop-w l = l.count - l.w
+invariant-loop-w l = (length l.bits ≡ length l.initial.bits) × Grown l.initial.bits l.bits × ((v : ℕ) → v < l.w → (v ≡ l.but → ⊥) → lit_at l.bits (key_of l.size (l.hash - get_or l.shares v 0)) ≡ true)

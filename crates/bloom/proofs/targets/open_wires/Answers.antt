@@ -7,6 +7,7 @@ use native.Mathlib.Omega.{arith}
 use borrow.Author.Tests.{le-leb, lt-leb}
 use lib.Dec.{leb}
 use lib.ListN.{length}
+use Rattle.std.proofs.lemmas.Bool.{eqb-true}
 use Rattle.logic.specs.Rules.{pick, bit, some_below}
 use Rattle.logic.specs.Bit.{bit_of}
 use Rattle.logic.proofs.Counts.{some_at}
@@ -35,27 +36,27 @@ module _ (bits : List ℕ) (none : length bits ≡ 0) where
       by_radius false true = some_at (held bits r.size ss w) 5 0 (omega arith) (lit (key_of r.size (part_of ss w 0)))
       by_radius false false = refl
 
-pub returns-then-bits-eq0 : goal.returns-then-bits-eq0
-returns-then-bits-eq0 c =
+pub returns-then-is_empty : goal.returns-then-is_empty
+returns-then-is_empty c =
     λ w l.
-    all_open w l ∙ ap bit (sym (open_all c.args.bits.now c.if-bits-eq0.true c.args.reach (shares_of c.args.reach c.args.columns) c.args.left w))
+    all_open w l ∙ ap bit (sym (open_all c.args.bits.now (eqb-true _ _ (sym c.is_empty.ensures ∙ c.if-is_empty.true)) c.args.reach (shares_of c.args.reach c.args.columns) c.args.left w))
 
-pub returns-then-left-radius : goal.returns-then-left-radius
+pub returns-then-left-reach : goal.returns-then-left-reach
 unfolding open_on
-returns-then-left-radius c =
+returns-then-left-reach c =
     λ w l.
-    rw (le-leb c.args.left c.args.reach.radius c.if-left-radius.true)
+    rw (le-leb c.args.left c.args.reach.radius c.if-left-reach.true)
     (c.open_alone.ensures w l ∙ ap (λ (ss : List ℕ). bit (held c.args.bits.now c.args.reach.size ss w w)) c.shares.ensures)
 
-pub returns-then-left-radius-2 : goal.returns-then-left-radius-2
+pub returns-then-left-reach-2 : goal.returns-then-left-reach-2
 unfolding open_on
-returns-then-left-radius-2 c =
+returns-then-left-reach-2 c =
     λ w l.
     rw (lt-leb c.args.left c.args.reach.radius (omega arith), le-leb c.args.left (c.args.reach.radius + 1) (omega arith))
-    (c.open_pairs.ensures w l ∙ ap (λ (ss : List ℕ). bit (some_below 5 (held c.args.bits.now c.args.reach.size ss w))) c.shares-then-left-radius-2.ensures)
+    (c.open_pairs.ensures w l ∙ ap (λ (ss : List ℕ). bit (some_below 5 (held c.args.bits.now c.args.reach.size ss w))) c.shares-then-left-reach-2.ensures)
 
-pub returns : goal.returns
+pub returns-else-left-reach-2 : goal.returns-else-left-reach-2
 unfolding open_on
-returns c =
+returns-else-left-reach-2 c =
     λ w l.
     rw (lt-leb c.args.left c.args.reach.radius (omega arith), lt-leb c.args.left (c.args.reach.radius + 1) (omega arith)) (all_open w l)

@@ -1,16 +1,11 @@
-use mathlib.Core.Path.{sym, ◌∙◌, ap}
-use Prim.Native.Nat.{◌+◌}
-use native.Mathlib.Omega.{arith}
-use lib.ListN.{drop}
-use Rattle.logic.proofs.Fold.{along_more, along_done}
+use Rattle.std.proofs.Common.{rules, tests, ◌∙◌}
+use Rattle.std.proofs.lemmas.Iterator.{YieldsList-from_slice}
+use Rattle.std.proofs.lemmas.Iterator.Consumers.{fold_from_yields_List}
+use Rattle.logic.proofs.Chains.{fold_is_along}
 use Rattle.gate.specs.Gates.{step}
-use Rattle.circuit.specs.run.Run.{forwards}
 use Rattle.circuit.proofs.run.forwards.Goals as goal
 
-pub loop-k-preserved : goal.loop-k-preserved
-loop-k-preserved c =
-    let h = along_more step c.args.gates.now c.loop-k.k 0 c.loop-k.v (omega arith) in
-    (omega arith, ap (forwards (drop (c.loop-k.k + 1) c.args.gates.now)) c.step-v.ensures ∙ sym h ∙ c.loop-k.invariant.1)
-
 pub returns : goal.returns
-returns c = sym (along_done step c.args.gates.now c.loop-k.k c.loop-k.v (omega arith)) ∙ c.loop-k.invariant.1
+returns c =
+    fold_from_yields_List _ (λ v b. step b v) _ _ c.fold.ensures.ran (YieldsList-from_slice c.args.gates.now cc) (λ a x b q k. search (rules, tests))
+    ∙ fold_is_along step _ _

@@ -1,24 +1,24 @@
-use mathlib.Core.Path.{sym, ◌∙◌, ap}
-use Prim.Native.Nat.{◌*◌, ◌+◌}
+use Rattle.std.proofs.Common.{sym, ◌∙◌, ap, arith, ◌+◌, ◌*◌, drop}
 use native.Mathlib.Nat.{le_trans}
-use native.Mathlib.Omega.{arith}
-use lib.ListN.{drop}
 use Rattle.logic.specs.Lists.{along}
 use Rattle.logic.proofs.Fold.{along_more, along_done}
-use Rattle.circuit.specs.Measure.{weight_of, hold_byte, hold}
+use Rattle.circuit.specs.Measure.{hold_byte, hold}
 use Rattle.circuit.proofs.Times.{hold_until}
 use Rattle.circuit.proofs.timing.ready_times.Goals as goal
 
-pub loop-i-preserved : goal.loop-i-preserved
-loop-i-preserved c =
-    let h = along_more (hold_byte (weight_of c.args.durations)) c.args.gates.now c.loop-i.i 0 c.loop-i.times (omega arith) in
-    let u = hold_until c.decode.result c.weight.result c.loop-i.times (255 * c.loop-i.i) c.loop-i.invariant.1.0 in
-    let n = c.hold-next.ensures ∙ (λ j. hold (c.decode.ensures j) (c.weight.ensures j) c.loop-i.times) in
-    let k = ap (along (hold_byte (weight_of c.args.durations)) (drop (c.loop-i.i + 1) c.args.gates.now)) n ∙ sym h
-    ∙ c.loop-i.invariant.1.1 in
-    (omega arith, ((λ w. rw c.hold-next.ensures (le_trans (u w) (omega arith))), k))
+pub loop-b-preserved : goal.loop-b-preserved
+loop-b-preserved g c =
+    let held = hold_byte (g.R.Rate.rate c.args.durations) in
+    let until = hold_until c.decode.result c.weight.result c.loop-b.times (255 * c.loop-b.b-index) c.loop-b.invariant.early in
+    let next = c.hold-next.ensures ∙ (λ j. hold (c.decode.ensures j) (c.weight.ensures j) c.loop-b.times) in
+    record {
+      early = λ w. rw c.hold-next.ensures (le_trans (until w) (omega arith));
+      left = ap (along held (drop (c.loop-b.b-index + 1) c.args.gates.now)) next
+          ∙ sym (along_more held c.args.gates.now c.loop-b.b-index 0 c.loop-b.times (omega arith))
+          ∙ c.loop-b.invariant.left;
+    }
 
 pub returns : goal.returns
-returns c =
-    sym (along_done (hold_byte (weight_of c.args.durations)) c.args.gates.now c.loop-i.i
-    c.loop-i.times (omega arith)) ∙ c.loop-i.invariant.1.1
+returns g c =
+    sym (along_done (hold_byte (g.R.Rate.rate c.args.durations)) c.args.gates.now c.loop-b.b-index c.loop-b.times (omega arith))
+    ∙ c.loop-b.invariant.left

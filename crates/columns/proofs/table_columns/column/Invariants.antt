@@ -1,12 +1,7 @@
 -- The loop goes from the last row to the first: the bits so far are the column of the rows passed.
-use mathlib.Core.Path.{◌≡◌}
-use Prim.Native.Nat.{◌≤◌, ◌<◌}
-use lib.ListN.{length, drop}
+use Rattle.std.proofs.Common.{◌≡◌, ◌<◌, drop}
 use Rattle.columns.specs.Wanted.{column_of, row_bit}
 use Rattle.columns.proofs.table_columns.column.Given as goal
 
 abbrev pub invariant-loop-x : goal.invariant-loop-x
-invariant-loop-x l = (l.x ≤ length l.rows) × (l.bits < 65536) × (l.bits ≡ column_of (row_bit l.care l.j) (drop l.x l.rows))
-
-abbrev pub decreases-loop-x : goal.decreases-loop-x
-decreases-loop-x l = l.x
+invariant-loop-x l = record { fits : l.bits < 65536; is : l.bits ≡ column_of (row_bit l.care l.j) (drop l.x l.rows) }

@@ -1,11 +1,10 @@
 -- A gate is passed over by its tests, or entered by the recursive call.
-use mathlib.Core.Path.{◌≡◌, refl, sym, ap, ◌∙◌, subst}
-use mathlib.Core.List.{List, flat_map, Memᴰ}
+use mathlib.Core.Path.{◌≡◌, refl, sym, ap, ◌∙◌}
+use mathlib.Core.List.{List, flat_map}
 use mathlib.Core.Option.{Option}
 use Prim.Native.Nat.{ℕ, ◌+◌, ◌-◌, ◌≤◌, ◌<◌}
 use native.Mathlib.Omega.{arith}
 use lib.ListN.{length, get_or}
-use Rattle.logic.proofs.Members.{member_at}
 use Rattle.problem.specs.order.Choices.{Choice, improve}
 use Rattle.problem.specs.order.View.{view}
 use Rattle.problem.specs.Problems.{Problem, here, within}
@@ -16,23 +15,24 @@ use Rattle.walk.specs.declared.node.Task.{Task}
 use Rattle.walk.specs.declared.node.Node.{Node}
 use Rattle.problem.specs.declared.Entry.{Entry}
 use Rattle.walk.specs.node.States.{list_of, needless, Posed, At, Lists}
+use Rattle.walk.proofs.node.Entries.{entry_lists, entry_place, entry_gate, entry_count}
 use Rattle.near_misses.specs.near_offer.Loose.{loosened}
 use Rattle.near_misses.proofs.near_walk.+dfs.Goals as goal
 use Rattle.near_misses.proofs.near_walk.+dfs.Goals.{Joined-hopeful, then-hopeful, else-hopeful}
 
-pub returns-then-remaining-eq0-clause-result_value : goal.returns-then-remaining-eq0-clause-result_value
+pub returns-then-remaining-eq0 : goal.returns-then-remaining-eq0
 unfolding tried_under
-returns-then-remaining-eq0-clause-result_value t c =
+returns-then-remaining-eq0 t c =
     λ P posed at.
-    c.consider_near-b.ensures.result_value P posed.asks at
+    c.consider_near-b.ensures P posed.asks at
     ∙ sym (ap (improve (within (loosened c.args.task c.args.k P) c.args.task.cost_limit) (view c.args.best))
     (pruned_zero needless (here (loosened c.args.task c.args.k P)) P.gates (list_of c.args.s) c.args.remaining c.if-remaining-eq0.true))
 
-pub loop-i-init : goal.loop-i-init
+pub loop-entry-init : goal.loop-entry-init
 unfolding improve flat_map
-loop-i-init t c =
+loop-entry-init t c =
     let z = c.if-remaining-eq0.false in
-    (omega arith, (omega arith, (c.consider_near-b.ensures.len_bound_2, λ P posed at. refl)))
+    (omega arith, λ P posed at. refl)
 
 -- what is known in a turn of the loop
 module _ (t : ℕ) (c : Joined-hopeful t) where
@@ -52,65 +52,55 @@ module _ (t : ℕ) (c : Joined-hopeful t) where
   loose P = loosened task c.args.k P
 
   abbrev entry : Entry
-  entry = record {
-    gate = get_or c.args.gates.now c.loop-i.i 0;
-    price = get_or c.args.prices.now c.loop-i.i 0;
-    duration = get_or c.args.durations.now c.loop-i.i 0;
-  }
+  entry = get_or c.args.entries.now c.loop-entry.entry-index (record { gate = 0; price = 0; duration = 0 })
 
-  index : c.loop-i.i < length c.args.gates.now
-  index = c.loop-i-test.true
+  index : c.loop-entry.entry-index < length c.args.entries.now
+  index = c.loop-entry-test.true
 
-  module _ (P : Problem) (posed : Posed P task c.args.gates.now c.args.prices.now c.args.durations.now) where
+  module _ (P : Problem) (posed : Posed P task c.args.entries.now) where
     tried_is : Lists P entry
-    tried_is = record {
-      listed = subst (λ (gs : List ℕ). Memᴰ entry.gate gs) posed.listed (member_at c.args.gates.now c.loop-i.i index);
-      priced = posed.priced c.loop-i.i index;
-      timed = posed.timed c.loop-i.i index;
-    }
+    tried_is = entry_lists P task c.args.entries.now posed c.loop-entry.entry-index _ index
 
     -- one gate more, whichever way it went
-    turned : At P node → (y : Option Choice) → y ≡ tried_by needless (loose P) limit (list_of node) rest entry.gate (view c.loop-i.b)
+    turned : At P node → (y : Option Choice) → y ≡ tried_by needless (loose P) limit (list_of node) rest entry.gate (view c.loop-entry.b)
         → y ≡ improve (within (loose P) limit) (view c.consider_near-b.result)
-        (branches needless (here (loose P)) P.gates (list_of node) rest (c.loop-i.i + 1))
+        (branches needless (here (loose P)) P.gates (list_of node) rest (c.loop-entry.entry-index + 1))
     turned at y e =
-        walk_turn needless (loose P) limit (list_of node) rest c.loop-i.i (view c.consider_near-b.result) (view c.loop-i.b) y
-        (rw posed.listed at index) (c.loop-i.invariant.1.1.1 P posed at)
-        (e ∙ ap (λ (g : List ℕ). tried_by needless (loose P) limit (list_of node) rest (get_or g c.loop-i.i 0) (view c.loop-i.b)) posed.listed)
+        walk_turn needless (loose P) limit (list_of node) rest c.loop-entry.entry-index (view c.consider_near-b.result) (view c.loop-entry.b) y
+        (entry_place P task c.args.entries.now posed c.loop-entry.entry-index index) (c.loop-entry.invariant.1 P posed at)
+        (e ∙ ap (λ (g : ℕ). tried_by needless (loose P) limit (list_of node) rest g (view c.loop-entry.b))
+        (sym (entry_gate P task c.args.entries.now posed c.loop-entry.entry-index _ index)))
 
   -- what the turn comes to, by each of its two ways
-  turn : (c.if-hopeful.b.len ≤ 12)
-      × ((P : Problem) → Posed P task c.args.gates.now c.args.prices.now c.args.durations.now → At P node
-      → view c.if-hopeful.b ≡ tried_by needless (loose P) limit (list_of node) rest entry.gate (view c.loop-i.b))
+  turn : (P : Problem) → Posed P task c.args.entries.now → At P node
+      → view c.if-hopeful.b ≡ tried_by needless (loose P) limit (list_of node) rest entry.gate (view c.loop-entry.b)
   turn =
       elim c.if-hopeful.branch [
         | then-hopeful w ↦ (
-          rw w.b-is w.dfs-found.ensures.len_bound,
           λ P posed at.
               let is = tried_is P posed in
               let f = w.advance-node.ensures.follows P posed.asks at is c.table_of-table.ensures in
               ap view w.b-is
-              ∙ w.dfs-found.ensures.result_value P posed f.at
-              ∙ ap (λ (l : List ℕ). tried_under needless (loose P) limit l rest (view c.loop-i.b)) f.longer
-              ∙ by_entering needless (loose P) limit (list_of node) rest entry.gate (view c.loop-i.b)
-              (c.hopeful.ensures.gate_value P posed.asks at is c.table_of-table.ensures w.if-hopeful.true),
+              ∙ w.dfs-b.ensures P posed f.at
+              ∙ ap (λ (l : List ℕ). tried_under needless (loose P) limit l rest (view c.loop-entry.b)) f.longer
+              ∙ by_entering needless (loose P) limit (list_of node) rest entry.gate (view c.loop-entry.b)
+              (c.hopeful.ensures.gate_value P posed.asks at is c.table_of-table.ensures w.if-hopeful.true)
         )
         | else-hopeful w ↦ (
-          rw w.b-is c.loop-i.invariant.1.1.0,
-          λ P posed at. ap view w.b-is ∙ c.hopeful.ensures.best_value P posed.asks at (tried_is P posed) c.table_of-table.ensures w.if-hopeful.false,
+          λ P posed at. ap view w.b-is ∙ c.hopeful.ensures.best_value P posed.asks at (tried_is P posed) c.table_of-table.ensures w.if-hopeful.false
         )
       ]
 
-pub loop-i-preserved : goal.loop-i-preserved
-loop-i-preserved t c =
-    let r = turn t c in
-    (omega arith, (c.loop-i.invariant.1.0, (r.0, λ P posed at. turned t c P posed at (view c.if-hopeful.b) (r.1 P posed at))))
+pub loop-entry-preserved : goal.loop-entry-preserved
+loop-entry-preserved t c =
+    (c.loop-entry.invariant.0, λ P posed at. turned t c P posed at (view c.if-hopeful.b) (turn t c P posed at))
 
-pub returns-clause-result_value : goal.returns-clause-result_value
-returns-clause-result_value t c =
-    let q : c.loop-i.i ≡ length c.args.gates.now = let x = c.loop-i.invariant.0 in let y = c.loop-i-test.false in omega arith in
-    let k = c.loop-i.invariant.1.0 in
+pub returns : goal.returns
+returns t c =
+    let q : c.loop-entry.entry-index ≡ length c.args.entries.now = let y = c.loop-entry-test.false in omega arith in
+    let k = c.loop-entry.invariant.0 in
     λ P posed at.
     walk_end needless (loosened c.args.task c.args.k P) c.args.task.cost_limit (list_of c.args.s) c.args.remaining (view c.args.best)
-    (view c.consider_near-b.result) (view c.loop-i.b) (omega arith)
-    (c.consider_near-b.ensures.result_value P posed.asks at) (rw (q, posed.listed) at (c.loop-i.invariant.1.1.1 P posed at))
+    (view c.consider_near-b.result) (view c.loop-entry.b) (omega arith)
+    (c.consider_near-b.ensures P posed.asks at)
+    (rw (q, entry_count P c.args.task c.args.entries.now posed) at (c.loop-entry.invariant.1 P posed at))

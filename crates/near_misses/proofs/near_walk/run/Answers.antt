@@ -15,14 +15,13 @@ use Rattle.near_misses.specs.near_offer.Loose.{loosened}
 use Rattle.near_misses.proofs.near_offer.Near.{nothing_lost}
 use Rattle.near_misses.proofs.near_walk.run.Goals as goal
 
-pub returns-clause-result_value : goal.returns-clause-result_value
-unfolding looked_under first_good
-returns-clause-result_value c =
+pub returns : goal.returns
+unfolding looked_under first_good view
+returns c =
     (λ P posed limited.
     let Q = loosened c.args.task c.args.k P in
-    c.dfs.ensures.result_value P posed (c.root.ensures.at P (record { least = λ e p among m r. omega arith }))
-    ∙ ap (λ (n : ℕ). tried_under needless Q c.args.task.cost_limit (take n c.root.result.path) c.args.task.gate_limit (view c.nothing.result)) c.root.ensures.len_value.0
-    ∙ ap (λ (x : Option Choice). tried_under needless Q c.args.task.cost_limit [] c.args.task.gate_limit x) c.nothing.ensures.0
+    c.dfs.ensures P posed (c.root.ensures.at P (record { least = λ e p among m r. omega arith }))
+    ∙ ap (λ (n : ℕ). tried_under needless Q c.args.task.cost_limit (take n c.root.result.path) c.args.task.gate_limit none) c.root.ensures.len_value.0
     ∙ nothing_lost P c.args.task posed.asks c.args.k c.args.task.cost_limit c.args.task.gate_limit
     ∙ ap (λ (n : ℕ). looked_under Q n [] c.args.task.gate_limit none) limited.cost_most
     ∙ ap (λ (n : ℕ). looked_under Q P.most_cost [] n none) limited.gates_most)

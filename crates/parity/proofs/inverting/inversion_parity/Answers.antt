@@ -8,7 +8,7 @@ pub loop-i-preserved : goal.loop-i-preserved
 loop-i-preserved c =
     let e = rw (part c.args.rows.now (c.loop-i.i + 1)) at c.smaller.ensures.value in
     let h = inversions_more c.args.rows.now c.loop-i.i (omega arith) in
-    (omega arith, (omega arith, omega arith))
+    (omega arith, omega arith)
 
 pub returns : goal.returns
 returns c = omega (arith, inversions_done c.args.rows.now c.loop-i.i (omega arith))

@@ -1,22 +1,14 @@
-use mathlib.Core.Bool.{true, false}
-use mathlib.Core.Path.{sym, ◌∙◌}
-use native.Mathlib.Omega.{arith}
-use borrow.Author.Tests.{eq-eqb, ne_eqb}
+use Rattle.std.proofs.Common.{rules, tests, ◌∙◌}
+use Rattle.std.proofs.lemmas.Iterator.{YieldsList-from_slice}
+use Rattle.std.proofs.lemmas.Iterator.Search.{all_from_yields_List}
+use Rattle.logic.proofs.Chains.{list_all_is_all_of}
+use Rattle.table.specs.Rows.{value_of}
 use Rattle.parity.specs.Parity.{differs}
-use Rattle.parity.proofs.permuting.Values.{all_turn, all_done}
+use Rattle.parity.proofs.permuting.Values.{all_map}
 use Rattle.parity.proofs.permuting.absent.Goals as goal
 
-pub returns-then-rows-i : goal.returns-then-rows-i
-returns-then-rows-i c =
-    sym (all_turn c.args.rows.now c.loop-i.i (differs c.args.x) false (omega arith) (rw (eq-eqb _ _ c.if-rows-i.true)))
-    ∙ c.loop-i.invariant.1
-
-pub loop-i-preserved : goal.loop-i-preserved
-loop-i-preserved c = (
-  omega arith,
-  sym (all_turn c.args.rows.now c.loop-i.i (differs c.args.x) true (omega arith)
-      (rw (ne_eqb _ _ c.if-rows-i.false))) ∙ c.loop-i.invariant.1,
-)
-
 pub returns : goal.returns
-returns c = sym (all_done c.args.rows.now c.loop-i.i (differs c.args.x) (omega arith)) ∙ c.loop-i.invariant.1
+returns c =
+    all_from_yields_List (λ row. differs c.args.x (value_of row)) _ _ _ c.all.ensures.ran (YieldsList-from_slice c.args.rows.now cc) (λ x b q k. search (rules, tests))
+    ∙ list_all_is_all_of _ _
+    ∙ all_map value_of (differs c.args.x) c.args.rows.now

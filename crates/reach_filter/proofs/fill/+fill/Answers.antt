@@ -1,12 +1,12 @@
-use mathlib.Core.Path.{sym, ◌∙◌, subst}
+use mathlib.Core.Path.{◌∙◌, subst}
 use mathlib.Core.List.{List}
-use Prim.Native.Nat.{ℕ, ◌-◌, ◌/◌}
+use Prim.Native.Nat.{ℕ, ◌-◌}
 use native.Mathlib.Omega.{arith}
 use borrow.Author.Count.{below_more}
 use lib.ListN.{get_or}
 use Rattle.gate.specs.Gates.{gate_of}
 use Rattle.gate.specs.Inner.{column_step}
-use Rattle.bloom.specs.hash.Reach.{Seen, SeenWithout}
+use Rattle.bloom.specs.hash.Reach.{Seen}
 use Rattle.bloom.proofs.hash.Joined.{seen_joined}
 use Rattle.reach_filter.specs.fill.Sieve.{Near}
 use Rattle.reach_filter.proofs.fill.Nearby.{near_none, near_more, near_map}
@@ -18,32 +18,20 @@ returns-then-k-eq0-clause-near t c = let seen = seen_joined c.note.new.bits c.ar
 
 pub fill-requires : goal.fill-requires
 fill-requires t c =
-    let k = c.loop-i.invariant.1.0 in
-    let e = c.decreases in
-    let g = get_or c.args.gates.now c.loop-i.i 0 in
+    let g = get_or c.args.gates.now c.loop-g.g-index 0 in
     let first = seen_joined c.note.new.bits c.args.reach c.args.columns c.args.but c.note.ensures.seen_but (λ b. c.note.ensures.grown _ (c.requires b)) in
-    let seen : Seen c.loop-i.bits c.args.reach c.args.columns = λ x y. c.loop-i.invariant.1.1.1.0 _ (first x y) in (
-      omega arith,
-      subst (λ (cs : List ℕ). SeenWithout (c.wide.result / 32) c.loop-i.bits c.args.reach cs) (sym c.step-next.ensures)
-          (subst (λ (x : ℕ). SeenWithout (x / 32) c.loop-i.bits c.args.reach (column_step (gate_of g) c.args.columns)) (sym c.wide.ensures) (seen_next c.loop-i.bits c.args.reach g c.args.columns seen)),
-    )
+    let seen : Seen c.loop-g.bits c.args.reach c.args.columns = λ x y. c.loop-g.invariant.2 _ (first x y) in
+    (omega arith, rw (c.from.ensures, c.step-next.ensures) (seen_next c.loop-g.bits c.args.reach g c.args.columns seen))
 
-pub loop-i-preserved : goal.loop-i-preserved
-loop-i-preserved t c = (
-  omega arith,
-  (
-    c.loop-i.invariant.1.0,
-    (
-      c.fill.ensures.bits_len_unchanged ∙ c.loop-i.invariant.1.1.0,
-      (
-        (λ k h. c.fill.ensures.grown k (c.loop-i.invariant.1.1.1.0 k h)),
-        below_more (λ (j : ℕ). Near (Seen c.fill.new.bits c.args.reach) c.args.gates.now (column_step (gate_of (get_or c.args.gates.now j 0)) c.args.columns) (c.args.k - 1)) c.loop-i.i
-            (λ j l. near_map (Seen c.loop-i.bits c.args.reach) (Seen c.fill.new.bits c.args.reach) c.args.gates.now (λ cs h x y. c.fill.ensures.grown _ (h x y)) (column_step (gate_of (get_or c.args.gates.now j 0)) c.args.columns) (c.args.k - 1) (c.loop-i.invariant.1.1.1.1 j l))
-            (subst (λ (cs : List ℕ). Near (Seen c.fill.new.bits c.args.reach) c.args.gates.now cs (c.args.k - 1)) c.step-next.ensures c.fill.ensures.near),
-      ),
-    ),
-  ),
+pub loop-g-preserved : goal.loop-g-preserved
+loop-g-preserved t c = (
+  c.loop-g.invariant.0,
+  c.fill.ensures.bits_len_unchanged ∙ c.loop-g.invariant.1,
+  (λ k h. c.fill.ensures.grown k (c.loop-g.invariant.2 k h)),
+  below_more (λ (j : ℕ). Near (Seen c.fill.new.bits c.args.reach) c.args.gates.now (column_step (gate_of (get_or c.args.gates.now j 0)) c.args.columns) (c.args.k - 1)) c.loop-g.g-index
+      (λ j l. near_map (Seen c.loop-g.bits c.args.reach) (Seen c.fill.new.bits c.args.reach) c.args.gates.now (λ cs h x y. c.fill.ensures.grown _ (h x y)) (column_step (gate_of (get_or c.args.gates.now j 0)) c.args.columns) (c.args.k - 1) (c.loop-g.invariant.3 j l))
+      (subst (λ (cs : List ℕ). Near (Seen c.fill.new.bits c.args.reach) c.args.gates.now cs (c.args.k - 1)) c.step-next.ensures c.fill.ensures.near),
 )
 
 pub returns-clause-near : goal.returns-clause-near
-returns-clause-near t c = let first = seen_joined c.note.new.bits c.args.reach c.args.columns c.args.but c.note.ensures.seen_but (λ b. c.note.ensures.grown _ (c.requires b)) in near_more (Seen c.loop-i.bits c.args.reach) c.args.gates.now c.args.columns c.args.k c.loop-i.invariant.1.0 (λ x y. c.loop-i.invariant.1.1.1.0 _ (first x y)) (λ j l. c.loop-i.invariant.1.1.1.1 j (omega arith))
+returns-clause-near t c = let first = seen_joined c.note.new.bits c.args.reach c.args.columns c.args.but c.note.ensures.seen_but (λ b. c.note.ensures.grown _ (c.requires b)) in near_more (Seen c.loop-g.bits c.args.reach) c.args.gates.now c.args.columns c.args.k c.loop-g.invariant.0 (λ x y. c.loop-g.invariant.2 _ (first x y)) (λ j l. c.loop-g.invariant.3 j (omega arith))

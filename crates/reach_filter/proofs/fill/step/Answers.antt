@@ -9,5 +9,5 @@ pub returns : goal.returns
 unfolding column_step
 returns c =
     c.with_cell.ensures
-    ∙ ap (set c.args.columns c.decode-gate.result.target) (ap₂ bit_xor c.cell.ensures c.firing.ensures)
+    ∙ ap (set c.args.columns c.decode-gate.result.target) (ap₂ bit_xor c.cell.ensures c.firing-fires.ensures)
     ∙ ap (λ (h : Gate). column_step h c.args.columns) c.decode-gate.ensures

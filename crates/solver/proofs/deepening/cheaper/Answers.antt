@@ -1,5 +1,5 @@
 use mathlib.Core.Path.{sym, ◌∙◌, subst}
-use mathlib.Core.Bool.{true≢false}
+use Rattle.std.specs.Prelude.{Some}
 use Prim.Native.Nat.{◌≤◌}
 use native.Mathlib.Omega.{arith}
 use Rattle.problem.specs.order.View.{view}
@@ -11,37 +11,36 @@ use Rattle.walk.specs.node.States.{Given, Limited, Ready, Supplied}
 use Rattle.solver.specs.deepening.Deepening.{Priced, limited_to}
 use Rattle.solver.proofs.deepening.Searches.{fair_limited, counted_at, priced_below}
 use Rattle.solver.proofs.deepening.cheaper.Goals as goal
-use Rattle.solver.proofs.deepening.cheaper.Goals.{After-at_cost-b}
+use Rattle.solver.proofs.deepening.cheaper.Goals.{After-at_cost}
 
 -- what the search at one cost comes to
-priced : (c : After-at_cost-b) (P : Problem) → Given P c.args.setup c.args.gates.now c.args.prices.now c.args.durations.now → Limited P c.args.setup.task → Shortest P P.most_cost (view c.args.held) c.args.held.len
-    → Dearer P c.args.costs.from → Priced P c.loop-c.c c.at_cost-b.result
+priced : (c : After-at_cost) (P : Problem) → Given P c.args.setup c.args.entries.now → Limited P c.args.setup.task → Shortest P P.most_cost (view (Some c.args.held)) c.args.held.len
+    → Dearer P c.args.costs.from → Priced P c.loop-c.c c.at_cost.result
 priced c P given limited first dear =
     let few = c.requires.ready.1 in
     let below = c.loop-c-test.true in
-    let top = c.requires.found_value.1.1 in
-    let counted = counted_at P c.args.setup.task _ _ _ given.posed c.requires.supplied.priced_all c.args.sums.now c.loop-c.c (omega (arith, limited.gates_most)) (rw limited.gates_most at c.requires.marked) (c.loop-c.invariant.1 P given.posed given.bounded limited first dear) in
-    priced_below P c.args.setup.task _ _ _ given.posed c.args.setup.least given.bounded limited c.args.held c.requires.found_value.0 first c.loop-c.c (omega arith) c.args.sums.now counted
-    _ c.limited_to.ensures c.at_cost-b.result (λ posed bounded. c.at_cost-b.ensures.priced P record { posed = posed; bounded = bounded })
+    let top = c.requires.costs_rise.1 in
+    let counted = counted_at P c.args.setup.task _ given.posed c.args.sums.now c.loop-c.c (omega (arith, limited.gates_most)) (rw limited.gates_most at c.requires.marked) (c.loop-c.invariant P given.posed given.bounded limited first dear) in
+    priced_below P c.args.setup.task _ given.posed c.args.setup.least given.bounded limited c.args.held first c.loop-c.c (omega arith) c.args.sums.now counted
+    _ c.limited_to.ensures c.at_cost.result (λ posed bounded. c.at_cost.ensures P record { posed = posed; bounded = bounded })
 
-pub at_cost-b-requires : goal.at_cost-b-requires
+pub at_cost-requires : goal.at_cost-requires
 unfolding limited_to
-at_cost-b-requires c =
-    let moved = subst (λ (t : Task). Supplied c.args.gates.now c.args.prices.now c.args.durations.now t c.args.bits.now c.args.setup.reach × (Ready t c.args.setup.least × (t.gate_limit ≤ 12))) (sym c.limited_to.ensures) (record { priced_all = c.requires.supplied.priced_all; timed_all = c.requires.supplied.timed_all; known = c.requires.supplied.known; sieve = c.requires.supplied.sieve }, (record { fair = fair_limited c.args.setup.task _ c.requires.ready.0.fair; modest = c.requires.ready.0.modest; few = c.requires.ready.0.few }, c.requires.ready.1)) in
+at_cost-requires c =
+    let moved = subst (λ (t : Task). Supplied c.args.entries.now t c.args.bits.now c.args.setup.reach × (Ready t c.args.setup.least × (t.gate_limit ≤ 12))) (sym c.limited_to.ensures) (record { known = c.requires.supplied.known; sieve = c.requires.supplied.sieve }, (record { fair = fair_limited c.args.setup.task _ c.requires.ready.0.fair; modest = c.requires.ready.0.modest; few = c.requires.ready.0.few }, c.requires.ready.1)) in
     record { supplied = moved.0; ready = moved.1 }
 
-pub returns-then-b-clause-cheapened : goal.returns-then-b-clause-cheapened
-returns-then-b-clause-cheapened c =
+pub returns-in-Some : goal.returns-in-Some
+returns-in-Some c =
     let b = c.loop-c-test.true in
-    let top = c.requires.found_value.1.1 in (λ P given limited first dear.
-    let most = found_cost P P.most_cost c.args.held (omega arith) c.requires.found_value.0 first in
-    let here = (priced (goal.at.returns-then-b-clause-cheapened c).After-at_cost-b P given limited first dear).first c.if-b.true in
-    record {
-      failed = λ e. absurd (true≢false (sym c.if-b.true ∙ e));
-      first = λ e. final P c.loop-c.c c.at_cost-b.result (omega arith) c.if-b.true here c.loop-c.c (c.loop-c.invariant.1 P given.posed given.bounded limited first dear) (found_cost P c.loop-c.c c.at_cost-b.result (omega arith) c.if-b.true here);
-    })
+    let top = c.requires.costs_rise.1 in λ P given limited first dear.
+    let most = found_cost P P.most_cost c.args.held (omega arith) first in
+    let here = subst (Priced P c.loop-c.c) c.in-Some.is (priced (goal.at.returns-in-Some c).After-at_cost P given limited first dear) in
+    final P c.loop-c.c c.in-Some.b (omega arith) here c.loop-c.c (c.loop-c.invariant P given.posed given.bounded limited first dear)
+    (found_cost P c.loop-c.c c.in-Some.b (omega arith) here)
 
 pub loop-c-preserved : goal.loop-c-preserved
 loop-c-preserved c =
-    let b = c.loop-c-test.true in
-    (omega arith, λ P posed bounded limited first dear. (priced (goal.at.loop-c-preserved c).After-at_cost-b P record { posed = posed; bounded = bounded } limited first dear).failed c.if-b.false)
+    let b = c.loop-c-test.true in λ P posed bounded limited first dear.
+    subst (Priced P c.loop-c.c) c.in_default.is
+    (priced (goal.at.loop-c-preserved c).After-at_cost P record { posed = posed; bounded = bounded } limited first dear)

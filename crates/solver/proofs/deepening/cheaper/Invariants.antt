@@ -1,5 +1,5 @@
 -- The loop rises through the costs. Invariant: nothing good costs less than the one at hand, since the searches before it failed.
-use Prim.Native.Nat.{◌-◌, ◌≤◌}
+use Rattle.std.specs.Prelude.{Some}
 use Rattle.problem.specs.order.View.{view}
 use Rattle.problem.specs.Problems.{Problem}
 use Rattle.problem.specs.Inner.{Dearer, Shortest}
@@ -7,8 +7,5 @@ use Rattle.walk.specs.node.States.{Posed, Bounded, Limited}
 use Rattle.solver.proofs.deepening.cheaper.Given as goal
 
 abbrev pub invariant-loop-c : goal.invariant-loop-c
-invariant-loop-c l = (l.c ≤ l.costs.to) × ((P : Problem) → Posed P l.task l.gates l.prices l.durations → Bounded P l.least → Limited P l.task → Shortest P P.most_cost (view l.held) l.held.len → Dearer P l.costs.from
-    → Dearer P l.c)
-
-abbrev pub decreases-loop-c : goal.decreases-loop-c
-decreases-loop-c l = l.costs.to - l.c
+invariant-loop-c l = (P : Problem) → Posed P l.task l.entries → Bounded P l.least → Limited P l.task → Shortest P P.most_cost (view (Some l.held)) l.held.len → Dearer P l.fn.costs.from
+    → Dearer P l.c

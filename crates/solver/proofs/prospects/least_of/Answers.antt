@@ -8,7 +8,7 @@ use Rattle.solver.proofs.prospects.least_of.Goals as goal
 pub returns-clause-bounded : goal.returns-clause-bounded
 unfolding along
 returns-clause-bounded c =
-    let k = c.needed.ensures.upper_bound in λ P durations long posed. record {
-      costs = costs_of P c.args.task c.args.gates.now c.args.prices.now durations posed long _ _ c.extra.ensures.by_index;
+    let k = c.needed.ensures.upper_bound in λ P posed. record {
+      costs = costs_of P c.args.task c.args.entries.now posed _ _ c.extra.ensures.each;
       needed = needs_span P c.args.task posed.asks [] c.start_columns.result among_nil c.start_columns.ensures c.needed.result c.needed.ensures.value;
     }

@@ -1,13 +1,13 @@
-use mathlib.Core.Path.{◌∙◌, ap, ap₂}
-use mathlib.Core.Bool.{true}
-use Rattle.logic.specs.Rules.{both}
-use Rattle.table.specs.Rows.{row_agrees}
+use Rattle.std.proofs.Common.{rules, tests, refl, ◌∙◌}
+use Rattle.std.proofs.lemmas.Iterator.{YieldsList-from_range}
+use Rattle.std.proofs.lemmas.Iterator.Search.{all_from_yields_List}
+use Rattle.logic.proofs.Chains.{all_in_range}
+use Rattle.table.specs.Rows.{row_agrees, bit_agrees}
 use Rattle.table.proofs.agreement.row_agrees.Goals as goal
 
 pub returns : goal.returns
 unfolding row_agrees
 returns c =
-    let zero = c.both.ensures ∙ ap (λ b. both b true) c.bit_agrees-2.ensures in
-    let one = c.both-low.ensures ∙ ap₂ both c.bit_agrees.ensures zero in
-    let two = c.both-2.ensures ∙ ap₂ both c.bit_agrees-4.ensures one in
-    c.both-3.ensures ∙ ap₂ both c.bit_agrees-3.ensures two
+    let right = bit_agrees c.args.p c.args.row c.args.v in
+    all_from_yields_List right _ _ _ c.all.ensures.ran (YieldsList-from_range 0 4 4 (cc) refl) (λ x b q k. search (rules, tests))
+    ∙ all_in_range right 4

@@ -1,15 +1,16 @@
-use mathlib.Core.Path.{ap, ◌∙◌}
-use native.Mathlib.Omega.{arith}
-use Rattle.logic.specs.Bit.{bit_of}
+use Rattle.std.proofs.Common.{rules, tests, arith, ◌*◌, ◌%◌, ◌^◌, ◌∙◌}
+use Rattle.std.proofs.lemmas.Iterator.{YieldsList-from_range}
+use Rattle.std.proofs.lemmas.Iterator.Search.{all_from_yields_List}
 use Rattle.logic.proofs.Bits.{shifted_one}
+use Rattle.logic.proofs.Chains.{all_in_range}
 use Rattle.circuit.specs.run.Run.{forwards}
-use Rattle.table.proofs.Rows.{clean_stop, clean_done}
+use Rattle.table.specs.Rows.{at_zero, clean}
 use Rattle.table.proofs.cleaning.clean.Goals as goal
 
-pub returns-then-forwards-n-ne0 : goal.returns-then-forwards-n-ne0
-returns-then-forwards-n-ne0 c =
-    clean_stop c.args.n (forwards c.args.list.now) c.loop-x.x (omega (arith, shifted_one c.args.n c.requires))
-    (λ e. c.if-forwards-n-ne0.true (ap (bit_of c.args.n) c.forwards.ensures ∙ e))
-
 pub returns : goal.returns
-returns c = clean_done c.args.n (forwards c.args.list.now) c.loop-x.x (omega (arith, shifted_one c.args.n c.requires)) c.loop-x.invariant.1
+unfolding clean
+returns c =
+    let zero = at_zero c.args.n (forwards c.args.list.now) in
+    all_from_yields_List zero _ _ _ c.all.ensures.ran (YieldsList-from_range 0 (1 * 2 ^ c.args.n % 2 ^ 64) (2 ^ c.args.n) (cc) (omega (arith, shifted_one c.args.n c.requires)))
+    (λ x b q k. search (rules, tests))
+    ∙ all_in_range zero (2 ^ c.args.n)

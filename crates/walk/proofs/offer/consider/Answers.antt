@@ -13,29 +13,23 @@ use Rattle.walk.proofs.offer.consider.Goals as goal
 
 pub loop-i-init : goal.loop-i-init
 unfolding improve
-loop-i-init c = (omega arith, (c.layout_count-count.ensures, (c.requires.len_bound.1, λ P asks at. refl)))
+loop-i-init c = λ P asks at. refl
 
 pub loop-i-preserved : goal.loop-i-preserved
 loop-i-preserved c =
-    let h = c.loop-i-test.true in (
-      omega arith,
-      (
-        c.loop-i.invariant.1.0,
-        (
-          c.try_layout-next.ensures.len_bound,
-          λ P asks at.
-              layouts_turn (within P c.args.task.cost_limit) (choice_of P (list_of c.args.s)) (layouts_for c.args.task.outputs c.args.task.free) c.loop-i.i
-              (view c.args.best) (view c.loop-i.b) (view c.try_layout-next.result) (omega arith) (c.loop-i.invariant.1.1.1 P asks at)
-              (c.try_layout-next.ensures.result_value P asks at
-              ∙ ap (λ (q : ℕ). attempt (within P c.args.task.cost_limit) (view c.loop-i.b) (choice_of P (list_of c.args.s) q)) c.layout_at-p.ensures),
-        ),
-      ),
-    )
+    let h = c.loop-i-test.true in
+    let n = c.layout_count-count.ensures in
+    λ P asks at.
+    layouts_turn (within P c.args.task.cost_limit) (choice_of P (list_of c.args.s)) (layouts_for c.args.task.outputs c.args.task.free) c.loop-i.i
+    (view c.args.best) (view c.loop-i.b) (view c.try_layout-b.result) (omega arith) (c.loop-i.invariant P asks at)
+    (c.try_layout-b.ensures P asks at
+    ∙ ap (λ (q : ℕ). attempt (within P c.args.task.cost_limit) (view c.loop-i.b) (choice_of P (list_of c.args.s) q)) c.layout_at-p.ensures)
 
-pub returns-clause-result_value : goal.returns-clause-result_value
-returns-clause-result_value c =
+pub returns : goal.returns
+returns c =
     let h = c.loop-i-test.false in
+    let n = c.layout_count-count.ensures in
     let ls = layouts_for c.args.task.outputs c.args.task.free in (λ P asks at.
-    c.loop-i.invariant.1.1.1 P asks at
-    ∙ ap (λ (l : List ℕ). improve (within P c.args.task.cost_limit) (view c.args.best) (map (choice_of P (list_of c.args.s)) l)) (take_all c.loop-i.i ls (omega (arith, c.loop-i.invariant.1.0)))
+    c.loop-i.invariant P asks at
+    ∙ ap (λ (l : List ℕ). improve (within P c.args.task.cost_limit) (view c.args.best) (map (choice_of P (list_of c.args.s)) l)) (take_all c.loop-i.i ls (omega arith))
     ∙ ap (λ (l : List Choice). improve (within P c.args.task.cost_limit) (view c.args.best) l) (here_is P c.args.task (list_of c.args.s) asks))

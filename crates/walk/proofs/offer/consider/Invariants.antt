@@ -1,8 +1,7 @@
 -- Invariant: after i layouts the incumbent is the first of the one before the loop and the list with each of them.
 use mathlib.Core.Path.{◌≡◌}
 use mathlib.Core.List.{map}
-use Prim.Native.Nat.{◌≤◌, ◌-◌}
-use lib.ListN.{length, take}
+use lib.ListN.{take}
 use Rattle.table.specs.layouts.Layouts.{layouts_for}
 use Rattle.problem.specs.order.Choices.{improve}
 use Rattle.problem.specs.order.View.{view}
@@ -11,9 +10,5 @@ use Rattle.walk.specs.node.States.{list_of, Asks, At}
 use Rattle.walk.proofs.offer.consider.Given as goal
 
 abbrev pub invariant-loop-i : goal.invariant-loop-i
-invariant-loop-i l = (l.i ≤ l.count) × ((l.count ≡ length (layouts_for l.task.outputs l.task.free)) × ((l.b.len ≤ 12)
-    × ((P : Problem) → Asks P l.task → At P l.s
-    → view l.b ≡ improve (within P l.task.cost_limit) (view l.initial.b) (map (choice_of P (list_of l.s)) (take l.i (layouts_for l.task.outputs l.task.free))))))
-
-abbrev pub decreases-loop-i : goal.decreases-loop-i
-decreases-loop-i l = l.count - l.i
+invariant-loop-i l = (P : Problem) → Asks P l.task → At P l.s
+    → view l.b ≡ improve (within P l.task.cost_limit) (view l.initial.b) (map (choice_of P (list_of l.s)) (take l.i (layouts_for l.task.outputs l.task.free)))

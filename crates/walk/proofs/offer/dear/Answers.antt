@@ -1,8 +1,7 @@
-use mathlib.Core.Path.{◌≡◌, ◌∙◌}
-use mathlib.Core.Bool.{true}
+use mathlib.Core.Path.{sym, ◌∙◌}
 use Prim.Native.Nat.{◌<◌}
 use native.Mathlib.Omega.{arith}
-use borrow.Author.Tests.{ltb-true, not-false}
+use borrow.Author.Tests.{ltb-true}
 use Rattle.problem.specs.order.View.{view}
 use Rattle.problem.proofs.Skips.{cut_limit, cut_cost, cut_gates}
 use Rattle.walk.proofs.offer.dear.Goals as goal
@@ -13,16 +12,14 @@ returns-then-limit-paid c =
     let h = c.if-limit-paid.true in
     cut_limit P c.args.limit l k (view c.args.best) (omega arith)
 
-pub returns-then-held-paid : goal.returns-then-held-paid
-returns-then-held-paid c =
+pub returns-then-cost-paid : goal.returns-then-cost-paid
+returns-then-cost-paid c =
     λ t P l k hc hl.
-    let f : c.args.best.found ≡ true = not-false _ c.if-not-best.false in
-    let n : c.args.best.len < c.args.len = ltb-true _ _ t in
-    cut_gates P c.args.limit l k c.args.best f (c.if-held-paid.true ∙ hc) (omega arith)
+    let n : c.in-Some.held.len < c.args.len = ltb-true _ _ t in
+    rw c.in-Some.is (cut_gates P c.args.limit l k c.in-Some.held (sym c.from-cost.ensures ∙ c.if-cost-paid.true ∙ hc) (omega arith))
 
 pub returns : goal.returns
 returns c =
     λ t P l k hc hl.
-    let f : c.args.best.found ≡ true = not-false _ c.if-not-best.false in
-    let n : c.args.best.cost < c.args.paid = ltb-true _ _ t in
-    cut_cost P c.args.limit l k c.args.best f (omega arith)
+    let n : c.from-cost.result < c.args.paid = ltb-true _ _ t in
+    rw c.in-Some.is (cut_cost P c.args.limit l k c.in-Some.held (omega arith))

@@ -19,12 +19,12 @@ tested c P asks at =
     let cheap = c.both-cheap.ensures ∙ ap (λ (d : ℕ). both (leb c.args.s.cost c.args.task.cost_limit) (leb d c.args.task.depth_limit)) c.latest-depth.ensures in
     c.both.ensures ∙ ap₂ both c.reached.ensures cheap ∙ good_is P c.args.task c.args.s asks at c.args.p
 
-pub returns-then-not-both-clause-result_value : goal.returns-then-not-both-clause-result_value
-returns-then-not-both-clause-result_value c = (λ P asks at. sym (attempt_not (within P c.args.task.cost_limit) (view c.args.best) (choice_of P (list_of c.args.s) c.args.p) (sym (tested (goal.at.returns-then-not-both-clause-result_value c).After-both P asks at) ∙ c.if-not-both.true)))
+pub returns-then-not-both : goal.returns-then-not-both
+returns-then-not-both c = (λ P asks at. sym (attempt_not (within P c.args.task.cost_limit) (view c.args.best) (choice_of P (list_of c.args.s) c.args.p) (sym (tested (goal.at.returns-then-not-both c).After-both P asks at) ∙ c.if-not-both.true)))
 
-pub returns-clause-result_value : goal.returns-clause-result_value
-returns-clause-result_value c =
+pub returns : goal.returns
+returns c =
     (λ P asks at.
     let m = mine_is P c.args.task c.args.s asks at c.args.p _ refl c.latest-depth.ensures refl refl refl in
-    c.offer.ensures.result_value ∙ ap (keep (view c.args.best)) m
-    ∙ sym (attempt_good (within P c.args.task.cost_limit) (view c.args.best) (choice_of P (list_of c.args.s) c.args.p) (sym (tested (goal.at.returns-clause-result_value c).After-both P asks at) ∙ c.if-not-both.false)))
+    c.offer.ensures ∙ ap (keep (view c.args.best)) m
+    ∙ sym (attempt_good (within P c.args.task.cost_limit) (view c.args.best) (choice_of P (list_of c.args.s) c.args.p) (sym (tested (goal.at.returns c).After-both P asks at) ∙ c.if-not-both.false)))

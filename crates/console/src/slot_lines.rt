@@ -3,7 +3,8 @@ ghost use Rattle.std.specs.Prelude.{◌≤◌, length};
 
 use crate::output;
 use circuit::measures::Measures;
-use outcomes::Searched;
+use outcomes::Reported;
+use record::refusal::Refusal;
 
 // Says the line of a refusal.
 pub fn say_refused(rt: &impl Print, code: u8) {
@@ -22,12 +23,12 @@ pub fn say_found(rt: &impl Print, m: Measures, bytes: &[u8])
 }
 
 // Says the line of a search's answer, whose record stands at the start of `answer`.
-pub fn say_answer(rt: &impl Print, told: Searched, answer: &[u8]) {
+pub fn say_answer(rt: &impl Print, told: Result<Reported, Refusal>, answer: &[u8]) {
     match told {
-        Searched::Refused(code) => say_refused(rt, code),
-        Searched::Found(n, m) => {
-            let size = n.min(answer.len()).min(15);
-            say_found(rt, m, &answer[..size]);
+        Err(refusal) => say_refused(rt, u8::from(refusal)),
+        Ok(found) => {
+            let size = found.size.min(answer.len()).min(15);
+            say_found(rt, found.measures, &answer[..size]);
         }
     }
 }

@@ -51,17 +51,15 @@ fn approach(job: &[u8]) -> Near
     ensures misses_value { (result.misses ≡ fewest_for job.now) × (view result.best ≡ closest_for job.now) }
     ensures len_bound { result.best.len ≤ 12 }
 {
-    let mut k = 0;
     let mut best = search::first_good(job);
-    while k < 64 {
+    for k in 0..64 {
         if best.found {
             return Near { misses: k, best };
         }
-        k += 1;
-        let next = at_most(job, k);
+        let next = at_most(job, k + 1);
         best = next;
     }
-    Near { misses: k, best }
+    Near { misses: 64, best }
 }
 
 // A search's answer, with the number of wanted bits missed.

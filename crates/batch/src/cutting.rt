@@ -4,6 +4,7 @@ ghost use Rattle.logic.specs.Lists.{total};
 ghost use Rattle.batch.specs.cutting.Records.{size_said, record_size, records_of, count_of, job_at};
 
 use record::job_fields;
+use std::ops::Range;
 
 // The records of a batch: how many there are, and where the last one ends.
 #[derive(Clone, Copy)]
@@ -13,6 +14,7 @@ pub struct Cut {
 }
 
 // The length that the first three bits of the record at the front stand for, or 0 where they stand for none.
+#[tactic(auto, unfolding(crate::specs::cutting::Records::size_said))]
 fn size_said(jobs: &[u8]) -> usize
     ensures { result ≡ size_said jobs.now }
 {
@@ -24,6 +26,7 @@ fn size_said(jobs: &[u8]) -> usize
 }
 
 // The size of the record at the front, or 0 where none can be cut off.
+#[tactic(auto, unfolding(crate::specs::cutting::Records::record_size))]
 pub fn record_size(jobs: &[u8]) -> usize
     ensures value { result ≡ record_size jobs.now }
     ensures upper_bound { result ≤ length jobs.now }
@@ -38,39 +41,27 @@ pub fn cut_off(jobs: &[u8]) -> Cut
     ensures end_value { result.end ≡ total length (records_of jobs.now) }
     ensures count_bound { result.count ≤ 64 }
 {
-    let mut count = 0;
     let mut end = 0;
-    while count < 64 {
+    for count in 0..64 {
         let size = record_size(&jobs[end..]);
         if size == 0 {
             return Cut { count, end };
         }
         end += size;
-        count += 1;
     }
-    Cut { count, end }
-}
-
-// Where a record of a batch begins and ends.
-#[derive(Clone, Copy)]
-pub struct Span {
-    pub start: usize,
-    pub end: usize,
+    Cut { count: 64, end }
 }
 
 // Where record `i` stands, counted from 0.
-pub fn record_at(jobs: &[u8], i: usize) -> Span
+pub fn record_at(jobs: &[u8], i: usize) -> Range<usize>
     requires { i < count_of jobs.now }
     ensures jobs_value { take (result.end - result.start) (drop result.start jobs.now) ≡ job_at jobs.now i }
     ensures start_le_end { result.start ≤ result.end }
     ensures end_in_bounds { result.end ≤ length jobs.now }
 {
     let mut start = 0;
-    let mut k = 0;
-    while k < i {
+    for _k in 0..i {
         start += record_size(&jobs[start..]);
-        k += 1;
     }
-    let end = start + record_size(&jobs[start..]);
-    Span { start, end }
+    start..start + record_size(&jobs[start..])
 }

@@ -7,34 +7,33 @@ use problem::Entry;
 use record::job_fields;
 
 // Entry `i`, counted from 0.
+#[tactic(auto, unfolding(crate::specs::entries::Inner::entry_at))]
 pub fn entry_at(library: &[u8], i: usize) -> Entry
     requires { i < length library.now / 3 }
     ensures { result ≡ entry_at library.now i }
 {
     Entry {
-        gate: logic::at(library, 3 * i),
-        price: logic::at(library, 3 * i + 1),
-        duration: logic::at(library, 3 * i + 2),
+        gate: library[3 * i],
+        price: library[3 * i + 1],
+        duration: library[3 * i + 2],
     }
 }
 
 // Whether the bytes are whole entries, at most 75.
+#[tactic(auto, unfolding(crate::specs::entries::Library::library_size_ok))]
 fn library_size_ok(library: &[u8]) -> bool
     ensures { result ≡ library_size_ok library.now }
 {
-    logic::both(library.len() <= 225, library.len() % 3 == 0)
+    library.len() <= 225 && library.len() % 3 == 0
 }
 
 // Whether an entry is a gate of at most `k` controls on `w` wires that takes time, with a gate byte of `least` or more.
+#[tactic(auto, unfolding(crate::specs::entries::Library::entry_ok))]
 fn entry_ok(k: u32, w: usize, least: usize, e: Entry) -> bool
     requires { w < 64 }
     ensures { result ≡ entry_ok k w least e }
 {
-    let above = least <= e.gate as usize;
-    logic::both(
-        gate::lawful(k, w, e.gate),
-        logic::both(1 <= e.duration, above),
-    )
+    gate::lawful(k, w, e.gate) && 1 <= e.duration && least <= usize::from(e.gate)
 }
 
 // Whether every entry is a lawful gate that takes time. Gate bytes must rise, so that no gate is listed twice.
@@ -43,14 +42,12 @@ fn entries_ok(k: u32, w: usize, library: &[u8]) -> bool
     ensures { result ≡ entries_ok k w 0 (entries_of library.now) }
 {
     let mut least = 0;
-    let mut i = 0;
-    while i < library.len() / 3 {
+    for i in 0..library.len() / 3 {
         let e = entry_at(library, i);
         if !entry_ok(k, w, least, e) {
             return false;
         }
-        least = logic::wide(e.gate) + 1;
-        i += 1;
+        least = usize::from(e.gate) + 1;
     }
     true
 }

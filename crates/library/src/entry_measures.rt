@@ -13,13 +13,11 @@ use problem::Entry;
 fn entry_for(library: &[u8], b: u8) -> Entry
     ensures { result ≡ entry_for (entries_of library.now) b }
 {
-    let mut i = 0;
-    while i < library.len() / 3 {
+    for i in 0..library.len() / 3 {
         let e = entries::entry_at(library, i);
         if e.gate == b {
             return e;
         }
-        i += 1;
     }
     Entry {
         gate: b,
@@ -29,25 +27,18 @@ fn entry_for(library: &[u8], b: u8) -> Entry
 }
 
 // Whether a gate has a duration. In a sound library every listed gate has one of at least 1, so this asks whether the gate is listed.
+#[tactic(auto, unfolding(crate::specs::entries::Inner::timed))]
 fn timed(library: &[u8], b: u8) -> bool
     ensures { result ≡ timed library.now b }
 {
-    let e = entry_for(library, b);
-    1 <= e.duration
+    1 <= entry_for(library, b).duration
 }
 
 // Whether every gate of a list has a duration in the library.
 pub fn all_timed(library: &[u8], list: &[u8]) -> bool
     ensures { result ≡ all_of (timed library.now) list.now }
 {
-    let mut i = 0;
-    while i < list.len() {
-        if !timed(library, list[i]) {
-            return false;
-        }
-        i += 1;
-    }
-    true
+    list.iter().all(|&b| timed(library, b))
 }
 
 // The cost of a list at the library's prices.
@@ -55,14 +46,9 @@ pub fn cost(library: &[u8], list: &[u8]) -> u16
     requires { length list.now ≤ 255 }
     ensures { result ≡ cost (price_in library.now) list.now }
 {
-    let mut sum: u16 = 0;
-    let mut i = 0;
-    while i < list.len() {
-        let e = entry_for(library, list[i]);
-        sum += e.price as u16;
-        i += 1;
-    }
-    sum
+    list.iter()
+        .map(|&b| u16::from(entry_for(library, b).price))
+        .sum()
 }
 
 // The ready times of the five wires after a list, at the library's durations.
@@ -71,13 +57,10 @@ pub fn ready_times(library: &[u8], list: &[u8]) -> [u16; 5]
     ensures { result ≡ ready_times (duration_in library.now) list.now }
 {
     let mut times = [0u16; 5];
-    let mut i = 0;
-    while i < list.len() {
-        let b = list[i];
+    for &b in list {
         let e = entry_for(library, b);
         let next = timing::hold(gate::decode(b), e.duration, times);
         times = next;
-        i += 1;
     }
     times
 }

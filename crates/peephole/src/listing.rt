@@ -64,24 +64,20 @@ pub fn window_job(wires: usize, prices: Prices, gates: &[u8]) -> [u8; 28]
 {
     let count = value_count(wires);
     let mut job = head(wires, prices, gates.len());
-    let mut x = 0;
-    while x < count {
+    for x in 0..count {
         job[12 + x] = row(count, gates, x);
-        x += 1;
     }
     job
 }
 
-// Moves the bytes from `from` on down to `to`.
+// Moves the bytes from `from` on down to `to`. (The library has no `copy_within`.)
 fn close_gap(list: &mut [u8], to: usize, from: usize)
     requires { (to ≤ from) × (from ≤ length list.old) }
     ensures { take (to + (length list.old - from)) list.new
         ≡ take to list.old ++ drop from list.old }
 {
-    let mut k = 0;
-    while k < list.len() - from {
+    for k in 0..list.len() - from {
         list[to + k] = list[from + k];
-        k += 1;
     }
 }
 
@@ -105,18 +101,14 @@ pub fn clear(list: &mut [u8], from: usize)
     requires { from ≤ length list.old }
     ensures { list.new ≡ take from list.old ++ replicate (length list.old - from) 0 }
 {
-    let mut k = 0;
-    while k < list.len() - from {
-        list[from + k] = 0;
-        k += 1;
-    }
+    list[from..].fill(0);
 }
 
+#[tactic(auto, unfolding(crate::specs::windows::Listings::sizes_ok))]
 fn sizes_ok(wires: usize, window: usize) -> bool
     ensures { result ≡ sizes_ok wires window }
 {
-    let wide = logic::either(wires == 3, wires == 4);
-    logic::both(wide, logic::both(2 <= window, window <= 4))
+    matches!(wires, 3 | 4) && matches!(window, 2..=4)
 }
 
 // The code of the first rule broken, or 0. The gates are looked at only where the wires, the window and the length are in order.

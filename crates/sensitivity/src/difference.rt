@@ -7,22 +7,19 @@ ghost use Rattle.sensitivity.specs.alike.Alike.{cost_difference};
 pub fn cost_difference(old: u16, new: u16) -> i32
     ensures { result ≡ cost_difference old new }
 {
-    new as i32 - old as i32
+    i32::from(new) - i32::from(old)
 }
 
 // Whether a difference is below 0.
 pub fn is_negative(difference: i32) -> bool
     ensures { result ≡ lt_z difference (pos 0) }
 {
-    difference < 0
+    difference.is_negative()
 }
 
-// The absolute value. No step overflows, not even for the least i32.
+// The absolute value, as a u32, so that it fits even for the least i32.
 pub fn distance(difference: i32) -> u32
     ensures { result ≡ nat_abs difference }
 {
-    if difference < 0 {
-        return (-1 - difference) as u32 + 1;
-    }
-    difference as u32
+    difference.unsigned_abs()
 }

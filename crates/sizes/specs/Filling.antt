@@ -2,10 +2,8 @@
 -- wires.
 use Rattle.std.specs.Prelude.{List, ℕ, eqb, length}
 use Rattle.logic.specs.Rules.{pick, rule}
-use Rattle.logic.specs.Answers.{Answer, refused, answered, answer_of}
+use Rattle.logic.specs.Answers.{Answer, answer_of}
 use Rattle.sizes.specs.permutations.Sizes.{sizes}
-use Rattle.sizes.specs.declared.Filled.{Filled}
-use Rattle.sizes.specs.declared.Filled.TheVariants.{Refused, Whole}
 
 -- "a lent buffer of 40,320 bytes"; "25, a buffer of another length, checked first"
 unfoldable pub fill_code : List ℕ → ℕ
@@ -17,8 +15,3 @@ fill_of cells = answer_of (fill_code cells) tt
 -- the buffer at exit: the table of sizes, or what was there where the call is refused
 unfoldable pub cells_left : List ℕ → List ℕ
 cells_left cells = pick (eqb (fill_code cells) 0) sizes cells
-
--- the code's enum as an answer: document 02's refusal code, or that the table of sizes was filled
-abbrev pub filled_answer : Filled → Answer (Unit {0})
-filled_answer (Refused code) = refused code
-filled_answer Whole = answered tt

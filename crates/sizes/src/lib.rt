@@ -12,47 +12,35 @@ ghost use Rattle.std.specs.Prelude.{◌≡◌, ℕ, suc, ◌<◌, eqb, length, g
 ghost use Rattle.logic.specs.Rules.{pick};
 ghost use Rattle.sizes.specs.permutations.Sizes.{twelve};
 ghost use Rattle.sizes.specs.permutations.Inner.{apart, grown, Level};
-ghost use Rattle.sizes.specs.Filling.{fill_of, cells_left, filled_answer};
+ghost use Rattle.record.specs.Answers.{reply};
+ghost use Rattle.sizes.specs.Filling.{fill_of, cells_left};
 
 use gate::gate_tables;
-
-// The answer: a refusal code, or that the whole table of sizes was filled.
-#[derive(Clone, Copy)]
-pub enum Filled {
-    Refused(u8),
-    Whole,
-}
+use record::refusal;
+use record::refusal::Refusal;
 
 // Whether no neighbor of the permutation at place `r` has a cell that holds `k`.
 fn apart(gates: &[u8], cells: &[u8], r: usize, k: u8) -> bool
     requires { gates.now ≡ twelve }
     ensures { result ≡ apart gates.now cells.now r k }
 {
-    let mut i = 0;
-    while i < gates.len() {
-        let place = neighbors::neighbor(gates[i], r);
-        if logic::at(cells, place) == k {
-            return false;
-        }
-        i += 1;
-    }
-    true
+    gates
+        .iter()
+        .all(|&g| logic::at(cells, neighbors::neighbor(g, r)) != k)
 }
 
 // The cell at place `r` after the sweep for k + 1 gates: an empty cell takes k + 1 where a neighbor holds `k`; any other stays.
+#[tactic(auto, unfolding(crate::specs::permutations::Inner::grown))]
 fn grown(gates: &[u8], cells: &[u8], r: usize, k: u8) -> u8
     requires gates_value { gates.now ≡ twelve }
     requires k_bound { k < 254 }
     ensures { result ≡ grown gates.now cells.now r k }
 {
     let cell = logic::at(cells, r);
-    if cell != 255 {
-        return cell;
-    }
-    if apart(gates, cells, r, k) {
-        cell
-    } else {
+    if cell == 255 && !apart(gates, cells, r, k) {
         k + 1
+    } else {
+        cell
     }
 }
 
@@ -64,11 +52,8 @@ fn grow(gates: &[u8], cells: &mut [u8], k: u8)
     ensures cells_len_2 { length cells.new ≡ 40320 }
     ensures level { Level (suc k) cells.old → Level (suc (suc k)) cells.new }
 {
-    let mut r = 0;
-    while r < cells.len() {
-        let cell = grown(gates, cells, r, k);
-        cells[r] = cell;
-        r += 1;
+    for r in 0..cells.len() {
+        cells[r] = grown(gates, cells, r, k);
     }
 }
 
@@ -79,42 +64,30 @@ fn grow_all(gates: &[u8], cells: &mut [u8])
     ensures cells_len_2 { length cells.new ≡ 40320 }
     ensures level { Level 1 cells.old → Level 255 cells.new }
 {
-    let mut k = 0;
-    while k < 254 {
+    for k in 0..254 {
         grow(gates, cells, k);
-        k += 1;
     }
 }
 
-// The cell at place `r` before the first sweep: the first permutation, the identity, needs no gate, and every other cell is empty.
-fn fresh(r: usize) -> u8
-    ensures { result ≡ pick (eqb r 0) 0 255 }
-{
-    if r == 0 { 0 } else { 255 }
-}
-
-// Sets every cell to its value before the first sweep.
+// Sets every cell to its value before the first sweep: the first permutation, the identity, needs no gate, and every other cell is empty.
 fn clear(cells: &mut [u8])
+    requires { 0 < length cells.old }
     ensures cells_len_unchanged { length cells.new ≡ length cells.old }
     ensures by_index { (s : ℕ) → s < length cells.old → get_or cells.new s 0 ≡ pick (eqb s 0) 0 255 }
 {
-    let mut s = 0;
-    while s < cells.len() {
-        cells[s] = fresh(s);
-        s += 1;
-    }
+    cells.fill(255);
+    cells[0] = 0;
 }
 
 // Fills a buffer of 40,320 bytes with the table of sizes.
-pub fn fill(cells: &mut [u8]) -> Filled
-    ensures result_value { filled_answer result ≡ fill_of cells.old }
+#[tactic(auto, unfolding(crate::specs::Filling::fill_of, crate::specs::Filling::fill_code, crate::specs::Filling::cells_left))]
+pub fn fill(cells: &mut [u8]) -> Result<(), Refusal>
+    ensures result_value { reply result ≡ fill_of cells.old }
     ensures cells_after { cells.new ≡ cells_left cells.old }
 {
-    if cells.len() != 40320 {
-        return Filled::Refused(25);
-    }
+    refusal::kept(cells.len() == 40320, Refusal::SizesLength)?;
     clear(cells);
     let gates = gate_tables::gate_table(2, 3);
     grow_all(&gates[..12], cells);
-    Filled::Whole
+    Ok(())
 }

@@ -17,31 +17,19 @@ fn in_mask(m: usize, x: usize) -> bool
     (m >> x) % 2 == 1
 }
 
-// How many unused values are still to be passed over, after a value that `counts`, being unused, or does not.
-fn still(d: usize, counts: bool) -> usize
-    ensures { result ≡ pick counts (d - 1) d }
-{
-    if counts {
-        if d == 0 { 0 } else { d - 1 }
-    } else {
-        d
-    }
-}
-
 // The unused value that has `d` smaller unused ones, or 0 where there is none.
 fn member(m: usize, d: usize) -> usize
     ensures value { result ≡ get_or (members m) d 0 }
     ensures upper_bound { result < 8 }
 {
-    let mut x = 0;
     let mut ahead = d;
-    while x < 8 {
-        let here = in_mask(m, x);
-        if logic::both(here, ahead == 0) {
-            return x;
+    for x in 0..8 {
+        if in_mask(m, x) {
+            if ahead == 0 {
+                return x;
+            }
+            ahead -= 1;
         }
-        ahead = still(ahead, here);
-        x += 1;
     }
     0
 }
@@ -52,7 +40,7 @@ fn lesser(m: usize, x: usize) -> usize
     ensures value { result ≡ ones (m % 2 ^ x) }
     ensures upper_bound { result ≤ 8 }
 {
-    usize::count_ones(m % (1 << x)) as usize
+    (m % (1 << x)).count_ones() as usize
 }
 
 fn flip(m: usize, x: usize) -> usize
@@ -73,16 +61,14 @@ pub fn neighbor(g: u8, r: usize) -> usize
     let mut rest = r;
     let mut place = 0;
     let mut orders = 40320;
-    let mut n = 8;
-    while n > 0 {
-        orders = orders / n;
-        n -= 1;
+    for n in (0..8).rev() {
+        orders /= n + 1;
         let x = member(from, rest / orders);
         let y = step::step(g, x);
         place += lesser(to, y) * orders;
         from = flip(from, x);
         to = flip(to, y);
-        rest = rest % orders;
+        rest %= orders;
     }
     place
 }

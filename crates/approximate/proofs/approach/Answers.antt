@@ -21,22 +21,24 @@ by_number job k e f j l (yes s) = ap (λ (m : ℕ). first_good (near job m)) s �
 by_number job k e f j l (no s) = f j (omega arith)
 
 pub loop-k-init : goal.loop-k-init
-loop-k-init c = (omega arith, (c.first_good-best.ensures.len_bound, (c.first_good-best.ensures.result_value ∙ sym (none_first c.args.job.now), λ j h. absurd (omega arith))))
+loop-k-init c = (c.first_good-best.ensures.len_bound, (c.first_good-best.ensures.result_value ∙ sym (none_first c.args.job.now), λ j h. absurd (omega arith)))
 
 -- something is found
 pub returns-then-best-clause-misses_value : goal.returns-then-best-clause-misses_value
 unfolding closest_choice
-returns-then-best-clause-misses_value c = let e = fewest_found (data_wires c.args.job.now) (rows c.args.job.now) (problem_of c.args.job.now) c.loop-k.k c.loop-k.invariant.0 c.loop-k.invariant.1.1.1 (choice c.loop-k.best) (sym c.loop-k.invariant.1.1.0 ∙ held_some c.loop-k.best c.if-best.true) in (e, c.loop-k.invariant.1.1.0 ∙ ap (λ (m : ℕ). first_good (near c.args.job.now m)) e)
+returns-then-best-clause-misses_value c = let e = fewest_found (data_wires c.args.job.now) (rows c.args.job.now) (problem_of c.args.job.now) c.loop-k.k (omega (arith, c.loop-k.auto)) c.loop-k.invariant.1.1 (choice c.loop-k.best) (sym c.loop-k.invariant.1.0 ∙ held_some c.loop-k.best c.if-best.true) in (e, c.loop-k.invariant.1.0 ∙ ap (λ (m : ℕ). first_good (near c.args.job.now m)) e)
 
 pub loop-k-preserved : goal.loop-k-preserved
 loop-k-preserved c =
     let h = c.loop-k-test.true in
-    let missed : first_good (near c.args.job.now c.loop-k.k) ≡ none = sym c.loop-k.invariant.1.1.0 ∙ held_none c.loop-k.best c.if-best.false in
-    (omega arith, (c.at_most-next.ensures.len_bound, (c.at_most-next.ensures.result_value, λ j l. by_number c.args.job.now c.loop-k.k missed c.loop-k.invariant.1.1.1 j l (ℕ_discrete j c.loop-k.k))))
+    let missed : first_good (near c.args.job.now c.loop-k.k) ≡ none = sym c.loop-k.invariant.1.0 ∙ held_none c.loop-k.best c.if-best.false in
+    (c.at_most-next.ensures.len_bound, (c.at_most-next.ensures.result_value, λ j l. by_number c.args.job.now c.loop-k.k missed c.loop-k.invariant.1.1 j l (ℕ_discrete j c.loop-k.k)))
 
 -- all of a table's bits may be missed
 pub returns-clause-misses_value : goal.returns-clause-misses_value
 unfolding closest_choice
 returns-clause-misses_value c =
     let h = c.loop-k-test.false in
-    let e = fewest_last (data_wires c.args.job.now) (rows c.args.job.now) (problem_of c.args.job.now) c.loop-k.k c.loop-k.invariant.0 c.loop-k.invariant.1.1.1 (omega (arith, c.loop-k.invariant.0)) in (e, c.loop-k.invariant.1.1.0 ∙ ap (λ (m : ℕ). first_good (near c.args.job.now m)) e)
+    let e = fewest_last (data_wires c.args.job.now) (rows c.args.job.now) (problem_of c.args.job.now) c.loop-k.k (omega (arith, c.loop-k.auto)) c.loop-k.invariant.1.1 (omega (arith, c.loop-k.auto)) in
+    let last : c.loop-k.k ≡ 64 = omega (arith, c.loop-k.auto) in
+    (sym last ∙ e, c.loop-k.invariant.1.0 ∙ ap (λ (m : ℕ). first_good (near c.args.job.now m)) e)

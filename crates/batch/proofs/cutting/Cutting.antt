@@ -4,7 +4,7 @@ use mathlib.Core.List.{List, [], ◌∷◌}
 use Prim.Native.Nat.{ℕ, zero, suc, ◌+◌, ◌-◌, ◌<◌, ◌≤◌}
 use native.Mathlib.Decide.{ℕ_discrete}
 use native.Mathlib.Omega.{arith}
-use borrow.Author.Tests.{ne_eqb, le-leb, lt-leb}
+use borrow.Author.Tests.{ne_eqb}
 use lib.ListN.{length, get_or, take, drop, length-drop}
 use lib.Seq.{take_all, drop-drop, length-take-le}
 use Rattle.logic.specs.Lists.{total}
@@ -23,15 +23,6 @@ module _ (l : List ℕ) where
   pub said_none : (data_wires l ≡ 3 → ⊥) → (data_wires l ≡ 4 → ⊥) → 0 ≡ size_said l
   unfolding size_said
   said_none h k = rw (ne_eqb (data_wires l) 3 h, ne_eqb (data_wires l) 4 k)
-
-  -- a record that is there whole, and one that is not
-  pub whole_here : (size : ℕ) → size ≡ size_said l → size ≤ length l → size ≡ record_size l
-  unfolding record_size
-  whole_here size e h = rw (← e, le-leb size (length l) h)
-
-  pub short_here : (size : ℕ) → size ≡ size_said l → length l < size → 0 ≡ record_size l
-  unfolding record_size
-  short_here size e h = rw (← e, lt-leb size (length l) h)
 
 -- what is left of a list, as a part of a slice
 pub rest_is : (l : List ℕ) (a : ℕ) → take (length l - a) (drop a l) ≡ drop a l

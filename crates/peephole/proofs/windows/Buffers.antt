@@ -1,12 +1,12 @@
 -- A list in a buffer: rows written one after the other, bytes moved down, bytes set to 0, and gates put in place of a window.
 use mathlib.Core.Path.{◌≡◌, sym, ap, ◌∙◌}
-use mathlib.Core.List.{List, [], ◌∷◌, ◌++◌, map, append_assoc, append-nil}
+use mathlib.Core.List.{List, [], ◌∷◌, ◌++◌, map, append_assoc}
 use Prim.Native.Nat.{ℕ, zero, suc, ◌+◌, ◌-◌, ◌≤◌, ◌<◌}
 use native.Mathlib.Nat.{add-zero}
 use native.Mathlib.Numerals.{add-one}
 use native.Mathlib.Omega.{arith}
-use lib.ListN.{length, get_or, take, drop, set, replicate, length-append, length-drop, length-replicate, get_or-replicate, drop_of_length-le}
-use lib.Seq.{sets, sets-eq, paste, paste-suc, take-paste, length_paste_head, take-suc-set, take_all, length-take-le, take_at, drop-append-add, drop-drop, get_or-append-add, get_or-drop}
+use lib.ListN.{length, get_or, take, drop, set, length-append, length-drop}
+use lib.Seq.{sets, sets-eq, paste, paste-suc, length_paste_head, take-suc-set, length-take-le, take_at, drop-append-add, drop-drop, get_or-append-add, get_or-drop}
 use Rattle.logic.specs.Lists.{numbers_from}
 use Rattle.peephole.specs.windows.Windows.{spliced}
 
@@ -55,34 +55,6 @@ moved_more l to from k h b =
 
     back : to + k + (from - to) ≡ from + k
     back = omega arith
-
-pub moved_all : (l : List ℕ) (to from k : ℕ) → to ≤ from → from ≤ length l → k ≡ length l - from
-    → take (to + (length l - from)) (paste l to (drop from l) k) ≡ take to l ++ drop from l
-moved_all l to from k h b e =
-    let s : length (drop from l) ≡ k = length-drop from l ∙ sym e in
-    ap (λ (i : ℕ). take (to + i) (paste l to (drop from l) k)) (sym e)
-    ∙ take-paste l to (drop from l) k (omega arith) (omega arith)
-    ∙ ap (λ (r : List ℕ). take to l ++ r) (take_all k (drop from l) (omega arith))
-
--- bytes set to 0
-pub zeroed_more : (l : List ℕ) (from k : ℕ) → from + k < length l
-    → set (paste l from (replicate (length l - from) 0) k) (from + k) 0 ≡ paste l from (replicate (length l - from) 0) (k + 1)
-zeroed_more l from k h =
-    let z : List ℕ = replicate (length l - from) 0 in
-    let n : length z ≡ length l - from = length-replicate (length l - from) 0 in
-    ap (set (paste l from z k) (from + k)) (sym (get_or-replicate (length l - from) k 0 0 (omega arith)))
-    ∙ paste-suc l from z k 0 h (omega arith)
-    ∙ ap (paste l from z) (sym (add-one k))
-
-pub zeroed_all : (l : List ℕ) (from k : ℕ) → from ≤ length l → k ≡ length l - from
-    → paste l from (replicate (length l - from) 0) k ≡ take from l ++ replicate (length l - from) 0
-zeroed_all l from k h e =
-    let z : List ℕ = replicate (length l - from) 0 in
-    let n : length z ≡ length l - from = length-replicate (length l - from) 0 in
-    let past : length l ≤ from + k = omega arith in
-    ap (λ (r : List ℕ). take from l ++ take k z ++ r) (drop_of_length-le l past)
-    ∙ append-nil (take from l ++ take k z)
-    ∙ ap (λ (r : List ℕ). take from l ++ r) (take_all k z (omega arith))
 
 -- gates put over the front of a window, and what is left of it passed over
 pub put_over : (l a : List ℕ) (at k : ℕ) → at + k ≤ length l → length a ≤ k

@@ -1,24 +1,13 @@
--- A test of all numbers below a bound, made by a loop that goes up; and whether a test holds of some number below 3 or 4.
-use mathlib.Core.Path.{◌≡◌, refl, sym, ap, ◌∙◌}
-use mathlib.Core.Bool.{Bool, true, false, true≢false, false≢true}
+-- A number for which a test holds, where one below a bound has it; and whether a test holds of some number below 3 or 4.
+use mathlib.Core.Path.{◌≡◌, refl, ap}
+use mathlib.Core.Bool.{Bool, true, false, false≢true}
 use mathlib.Core.Logic.{⊎_elim}
-use Prim.Native.Nat.{ℕ, zero, suc, ◌+◌, ◌≤◌, ◌<◌}
-use native.Mathlib.Numerals.{add-one}
+use Prim.Native.Nat.{ℕ, zero, suc, ◌<◌}
 use native.Mathlib.Omega.{arith}
-use Rattle.logic.specs.Rules.{both, either, pick, all_below, some_below}
-use Rattle.logic.proofs.Chain.{both_true, either_cases, not_so}
-use Rattle.logic.proofs.Below.{below}
+use Rattle.logic.specs.Rules.{both, either, pick, some_below}
+use Rattle.logic.proofs.Chain.{either_cases}
 
 module _ (f : ℕ → Bool) where
-  pub one_fails : (n k : ℕ) → k < n → f k ≡ false → false ≡ all_below n f
-  one_fails n k h e = sym (not_so (all_below n f) (λ t. true≢false (sym (below n f t k h) ∙ e)))
-
-  pub one_more : (n : ℕ) → all_below n f ≡ true → f n ≡ true → all_below (n + 1) f ≡ true
-  one_more n h e = rw (add-one n) (both_true e h)
-
-  pub all_told : (i n : ℕ) → i ≤ n → n ≤ i → all_below i f ≡ true → true ≡ all_below n f
-  all_told i n h k t = let e : i ≡ n = omega arith in sym (sym (ap (λ m. all_below m f) e) ∙ t)
-
   pub some_is : (n : ℕ) → some_below n f ≡ true → (k : ℕ) × ((k < n) × (f k ≡ true))
   some_is zero h = absurd (false≢true h)
   some_is (suc n) h =

@@ -1,17 +1,15 @@
 -- Lemmas for the loops of `member` and `neighbor`: the unused values from one value on, and one digit of a place.
 use mathlib.Core.Path.{◌≡◌, refl, sym, ap, ◌∙◌, subst}
-use mathlib.Core.Bool.{Bool, true, false, true≢false, false≢true}
+use mathlib.Core.Bool.{true, false}
 use mathlib.Core.List.{List, ◌∷◌, map}
 use Prim.Native.Nat.{ℕ, zero, suc, ◌+◌, ◌-◌, ◌*◌, ◌/◌, ◌%◌, ◌^◌, ◌≤◌, ◌<◌}
 use native.Mathlib.Nat.{mul-div_cancel_left, mul-le-mul}
 use native.Mathlib.Numerals.{add-one}
 use native.Mathlib.Omega.{arith}
-use borrow.Author.Tests.{eqb-true}
 use lib.Bits.{bit_xor}
 use lib.Count.{ones}
-use lib.Dec.{eqb}
 use lib.ListN.{length, get_or, length-map}
-use Rattle.logic.specs.Rules.{both, pick}
+use Rattle.logic.specs.Rules.{pick}
 use Rattle.logic.specs.Lists.{keep_only, numbers_from}
 use Rattle.gate.specs.Gates.{step}
 use Rattle.sizes.specs.permutations.Orders.{factorial}
@@ -23,28 +21,22 @@ abbrev pub members_from : ℕ → ℕ → List ℕ
 members_from m x = keep_only (in_mask m) (numbers_from x (8 - x))
 
 module _ (m x ahead : ℕ) where
-  here_at : (t : Bool) (a : ℕ) (l : List ℕ) → both t (eqb a 0) ≡ true → x ≡ get_or (pick t (x ∷ l) l) a 0
-  here_at true zero l h = refl
-  here_at true (suc a) l h = let e = eqb-true (suc a) 0 h in absurd (omega arith)
-  here_at false a l h = absurd (false≢true h)
-
-  next_at : (t : Bool) (a : ℕ) (l : List ℕ) → both t (eqb a 0) ≡ false → get_or (pick t (x ∷ l) l) a 0 ≡ get_or l (pick t (a - 1) a) 0
-  next_at true zero l h = absurd (true≢false h)
-  next_at true (suc a) l h = let e : a ≡ suc a - 1 = omega arith in ap (λ (i : ℕ). get_or l i 0) e
-  next_at false a l h = refl
-
+  -- one value: the one sought, passed over, or used already
   unrolled : x < 8 → members_from m x ≡ pick (in_mask m x) (x ∷ members_from m (suc x)) (members_from m (suc x))
   unrolled h = let e : 8 - x ≡ suc (8 - suc x) = omega arith in ap (λ (n : ℕ). keep_only (in_mask m) (numbers_from x n)) e
 
-  -- x is the one, or is passed
-  pub scan_here : x < 8 → both (in_mask m x) (eqb ahead 0) ≡ true → x ≡ get_or (members_from m x) ahead 0
-  scan_here h t = here_at (in_mask m x) ahead (members_from m (suc x)) t ∙ ap (λ (l : List ℕ). get_or l ahead 0) (sym (unrolled h))
+  pub scan_here : x < 8 → in_mask m x ≡ true → ahead ≡ 0 → x ≡ get_or (members_from m x) ahead 0
+  scan_here h t a = rw (a, unrolled h, t) refl
 
-  pub scan_next : x < 8 → both (in_mask m x) (eqb ahead 0) ≡ false
-      → get_or (members_from m (x + 1)) (pick (in_mask m x) (ahead - 1) ahead) 0 ≡ get_or (members_from m x) ahead 0
-  scan_next h t =
-      ap (λ (y : ℕ). get_or (members_from m y) (pick (in_mask m x) (ahead - 1) ahead) 0) (add-one x)
-      ∙ sym (ap (λ (l : List ℕ). get_or l ahead 0) (unrolled h) ∙ next_at (in_mask m x) ahead (members_from m (suc x)) t)
+  pub scan_next : x < 8 → in_mask m x ≡ true → 0 < ahead → get_or (members_from m (x + 1)) (ahead - 1) 0 ≡ get_or (members_from m x) ahead 0
+  scan_next h t a = rw (add-one x, unrolled h, t) (passed ahead a)
+    where
+      passed : (a : ℕ) → 0 < a → get_or (members_from m (suc x)) (a - 1) 0 ≡ get_or (x ∷ members_from m (suc x)) a 0
+      passed zero a = absurd (omega arith)
+      passed (suc a) h = let e : suc a - 1 ≡ a = omega arith in ap (λ (i : ℕ). get_or (members_from m (suc x)) i 0) e
+
+  pub scan_over : x < 8 → in_mask m x ≡ false → get_or (members_from m (x + 1)) ahead 0 ≡ get_or (members_from m x) ahead 0
+  scan_over h t = rw (add-one x, unrolled h, t) refl
 
   pub scan_end : 8 ≤ x → get_or (members_from m x) ahead 0 ≡ 0
   scan_end h = let e : 8 - x ≡ 0 = omega arith in ap (λ (n : ℕ). get_or (keep_only (in_mask m) (numbers_from x n)) ahead 0) e

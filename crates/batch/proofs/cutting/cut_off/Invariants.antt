@@ -7,8 +7,5 @@ use Rattle.batch.specs.cutting.Records.{records, records_of, count_of}
 use Rattle.batch.proofs.cutting.cut_off.Given as goal
 
 abbrev pub invariant-loop-count : goal.invariant-loop-count
-invariant-loop-count l = (l.count ≤ 64) × ((l.end ≤ length l.jobs) × ((l.count + length (records (64 - l.count) (drop l.end l.jobs)) ≡ count_of l.jobs)
-    × (l.end + total length (records (64 - l.count) (drop l.end l.jobs)) ≡ total length (records_of l.jobs))))
-
-abbrev pub decreases-loop-count : goal.decreases-loop-count
-decreases-loop-count l = 64 - l.count
+invariant-loop-count l = (l.end ≤ length l.jobs) × ((l.count + length (records (64 - l.count) (drop l.end l.jobs)) ≡ count_of l.jobs)
+    × (l.end + total length (records (64 - l.count) (drop l.end l.jobs)) ≡ total length (records_of l.jobs)))

@@ -7,8 +7,5 @@ use Rattle.batch.specs.cutting.Records.{records, job_at}
 use Rattle.batch.proofs.cutting.record_at.Given as goal
 
 abbrev pub invariant-loop-k : goal.invariant-loop-k
-invariant-loop-k l = (l.k ≤ l.i) × ((l.start ≤ length l.jobs) × ((l.i - l.k < length (records (64 - l.k) (drop l.start l.jobs)))
-    × (get_or (records (64 - l.k) (drop l.start l.jobs)) (l.i - l.k) [] ≡ job_at l.jobs l.i)))
-
-abbrev pub decreases-loop-k : goal.decreases-loop-k
-decreases-loop-k l = l.i - l.k
+invariant-loop-k l = (l.start ≤ length l.jobs) × ((l.i - l._k < length (records (64 - l._k) (drop l.start l.jobs)))
+    × (get_or (records (64 - l._k) (drop l.start l.jobs)) (l.i - l._k) [] ≡ job_at l.jobs l.i))

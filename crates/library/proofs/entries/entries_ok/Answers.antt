@@ -12,18 +12,16 @@ pub returns-then-not-entry_ok : goal.returns-then-not-entry_ok
 returns-then-not-entry_ok c =
     let e = ap (entry_ok c.args.k c.args.w c.loop-i.least) c.entry_at-e.ensures in
     let ok = sym (c.entry_ok.ensures ∙ e) ∙ c.if-not-entry_ok.true in
-    sym (sound_turn c.args.library.now c.loop-i.i c.args.k c.args.w c.loop-i.least _ (omega arith) ok) ∙ c.loop-i.invariant.1
+    sym (sound_turn c.args.library.now c.loop-i.i c.args.k c.args.w c.loop-i.least _ (omega arith) ok) ∙ c.loop-i.invariant
 
 pub loop-i-preserved : goal.loop-i-preserved
 loop-i-preserved c =
     let e = ap (entry_ok c.args.k c.args.w c.loop-i.least) c.entry_at-e.ensures in
     let ok = sym (c.entry_ok.ensures ∙ e) ∙ c.if-not-entry_ok.false in
     let g = ap (λ (x : Entry). x.gate) c.entry_at-e.ensures in
-    let above : c.wide-least.result + 1 ≡ suc (entry_at c.args.library.now c.loop-i.i).gate = omega (arith, c.wide-least.ensures, g) in (
-      omega arith,
-      ap (λ (n : ℕ). entries_ok c.args.k c.args.w n (drop (c.loop-i.i + 1) (entries_of c.args.library.now))) above
-          ∙ sym (sound_turn c.args.library.now c.loop-i.i c.args.k c.args.w c.loop-i.least _ (omega arith) ok) ∙ c.loop-i.invariant.1,
-    )
+    let above : c.from-least.result + 1 ≡ suc (entry_at c.args.library.now c.loop-i.i).gate = omega (arith, c.from-least.ensures, g) in
+    ap (λ (n : ℕ). entries_ok c.args.k c.args.w n (drop (c.loop-i.i + 1) (entries_of c.args.library.now))) above
+    ∙ sym (sound_turn c.args.library.now c.loop-i.i c.args.k c.args.w c.loop-i.least _ (omega arith) ok) ∙ c.loop-i.invariant
 
 pub returns : goal.returns
-returns c = sym (sound_done c.args.library.now c.loop-i.i c.args.k c.args.w c.loop-i.least (omega arith)) ∙ c.loop-i.invariant.1
+returns c = sym (sound_done c.args.library.now c.loop-i.i c.args.k c.args.w c.loop-i.least (omega arith)) ∙ c.loop-i.invariant

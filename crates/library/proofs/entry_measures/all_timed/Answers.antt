@@ -1,20 +1,11 @@
-use mathlib.Core.Path.{sym, ◌∙◌}
-use native.Mathlib.Omega.{arith}
-use Rattle.logic.proofs.Fold.{all_stop, all_step, all_end}
+use Rattle.std.proofs.Common.{rules, tests, ◌∙◌}
+use Rattle.std.proofs.lemmas.Iterator.{YieldsList-from_slice}
+use Rattle.std.proofs.lemmas.Iterator.Search.{all_from_yields_List}
+use Rattle.logic.proofs.Chains.{list_all_is_all_of}
 use Rattle.library.specs.entries.Inner.{timed}
 use Rattle.library.proofs.entry_measures.all_timed.Goals as goal
 
-pub returns-then-not-timed : goal.returns-then-not-timed
-returns-then-not-timed c =
-    all_stop (timed c.args.library.now) c.args.list.now c.loop-i.i 0 c.loop-i.invariant.1 (omega arith)
-    (sym c.timed.ensures ∙ c.if-not-timed.true)
-
-pub loop-i-preserved : goal.loop-i-preserved
-loop-i-preserved c = (
-  omega arith,
-  all_step (timed c.args.library.now) c.args.list.now c.loop-i.i 0 c.loop-i.invariant.1 (omega arith)
-      (sym c.timed.ensures ∙ c.if-not-timed.false),
-)
-
 pub returns : goal.returns
-returns c = all_end (timed c.args.library.now) c.args.list.now c.loop-i.i 0 c.loop-i.invariant.1 (omega arith)
+returns c =
+    all_from_yields_List (timed c.args.library.now) _ _ _ c.all.ensures.ran (YieldsList-from_slice c.args.list.now cc) (λ x b q k. search (rules, tests))
+    ∙ list_all_is_all_of _ _

@@ -1,15 +1,12 @@
-use mathlib.Core.Path.{ap}
-use native.Mathlib.Omega.{arith}
-use Rattle.logic.proofs.Fold.{total_more, total_done}
-use Rattle.problem.specs.declared.Entry.{Entry}
+use Rattle.std.proofs.Common.{rules, ◌∙◌}
+use Rattle.std.proofs.lemmas.Iterator.{YieldsList-from_slice, YieldsList-from_map}
+use Rattle.std.proofs.lemmas.Iterator.Consumers.{sum_by_from_yields_List}
+use Rattle.logic.proofs.Chains.{sum_by_is_total}
 use Rattle.library.specs.entries.Library.{price_in}
 use Rattle.library.proofs.entry_measures.cost.Goals as goal
 
-pub loop-i-preserved : goal.loop-i-preserved
-loop-i-preserved c =
-    let h = total_more (price_in c.args.library.now) c.args.list.now c.loop-i.i 0 (omega arith) in
-    let e = ap (λ (x : Entry). x.price) c.entry_for-e.ensures in
-    (omega arith, (omega arith, omega arith))
-
 pub returns : goal.returns
-returns c = omega (arith, total_done (price_in c.args.library.now) c.args.list.now c.loop-i.i (omega arith))
+returns c =
+    sum_by_from_yields_List (price_in c.args.library.now) c.args.list.now c.map.result _ c.sum.ensures.ran
+    (YieldsList-from_map _ (price_in c.args.library.now) (YieldsList-from_slice c.args.list.now cc) c.map.ensures.closure (λ x r q k. search rules))
+    ∙ sum_by_is_total _ _

@@ -14,17 +14,14 @@ pub loop-x-preserved : goal.loop-x-preserved
 loop-x-preserved c =
     let n : length c.head-job.result ≡ 28 = search rules in
     let few = c.value_count-count.ensures.lower_bound.1 in (
-      omega arith,
-      (
-        simp length-set c.loop-x.invariant.1.0,
-        row_more (row_of c.value_count-count.result c.args.gates.now) (take 12 c.head-job.result) c.loop-x.job c.loop-x.x c.row.result (omega arith) c.loop-x.invariant.1.1 c.row.ensures,
-      ),
+      simp length-set c.loop-x.invariant.0,
+      row_more (row_of c.value_count-count.result c.args.gates.now) (take 12 c.head-job.result) c.loop-x.job c.loop-x.x c.row.result (omega arith) c.loop-x.invariant.1 c.row.ensures,
     )
 
 pub returns : goal.returns
 unfolding window_job
 returns c =
-    let x : c.loop-x.x ≡ 2 ^ c.args.wires = omega arith in
+    let x : c.loop-x.x ≡ 2 ^ c.args.wires = omega (arith, c.loop-x.auto, c.value_count-count.ensures.value) in
     ap (λ (k : ℕ). take (12 + k) c.loop-x.job) (sym x)
-    ∙ c.loop-x.invariant.1.1
+    ∙ c.loop-x.invariant.1
     ∙ (λ i. c.head-job.ensures i ++ map (row_of (c.value_count-count.ensures.value i) c.args.gates.now) (numbers_from 0 (x i)))

@@ -1,7 +1,7 @@
 -- The rows are written one after the other. Invariant: the first twelve bytes and x rows stand there.
 use mathlib.Core.Path.{◌≡◌}
 use mathlib.Core.List.{List, ◌++◌, map}
-use Prim.Native.Nat.{ℕ, ◌+◌, ◌-◌, ◌*◌, ◌%◌, ◌≤◌}
+use Prim.Native.Nat.{ℕ, ◌+◌, ◌-◌, ◌*◌, ◌%◌}
 use lib.ListN.{length, take}
 use Rattle.logic.specs.Lists.{numbers_from}
 use Rattle.circuit.specs.run.Run.{forwards}
@@ -12,7 +12,4 @@ abbrev pub row_of : ℕ → List ℕ → ℕ → ℕ
 row_of count gates x = 16 * (count - 1) + forwards gates x % 16
 
 abbrev pub invariant-loop-x : goal.invariant-loop-x
-invariant-loop-x l = (l.x ≤ l.count) × ((length l.job ≡ length l.initial.job) × (take (12 + l.x) l.job ≡ take 12 l.initial.job ++ map (row_of l.count l.gates) (numbers_from 0 l.x)))
-
-abbrev pub decreases-loop-x : goal.decreases-loop-x
-decreases-loop-x l = l.count - l.x
+invariant-loop-x l = (length l.job ≡ length l.initial.job) × (take (12 + l.x) l.job ≡ take 12 l.initial.job ++ map (row_of l.count l.gates) (numbers_from 0 l.x))

@@ -1,26 +1,21 @@
-use mathlib.Core.Path.{◌≡◌, refl, sym, ap, ◌∙◌}
-use mathlib.Core.Bool.{Bool, true, false}
-use Prim.Native.Nat.{ℕ, ◌+◌, ◌-◌, ◌≤◌}
-use native.Mathlib.Omega.{arith}
-use borrow.Author.Rules.{rules}
-use lib.Dec.{eqb}
-use lib.ListN.{get_or}
-use Rattle.logic.specs.Rules.{both, pick}
-use Rattle.sizes.specs.permutations.Inner.{in_mask, members}
-use Rattle.sizes.proofs.neighbors.Digits.{members_from, scan_here, scan_next, scan_end}
+use Rattle.std.proofs.Common.{refl, arith, ◌∙◌, sym}
+use Rattle.sizes.specs.permutations.Inner.{members}
+use Rattle.sizes.proofs.neighbors.Digits.{scan_next, scan_over}
 use Rattle.sizes.proofs.neighbors.member.Goals as goal
+use Rattle.sizes.proofs.neighbors.member.Goals.{then-in_mask+else-ahead-eq0, else-in_mask}
 
 pub loop-x-init : goal.loop-x-init
 unfolding members
-loop-x-init c = (omega arith, refl)
+loop-x-init c = refl
 
 pub loop-x-preserved : goal.loop-x-preserved
 loop-x-preserved c =
-    let t : both (in_mask c.args.m c.loop-x.x) (eqb c.loop-x.ahead 0) ≡ false
-    = ap (λ (b : Bool). both b (eqb c.loop-x.ahead 0)) (sym c.in_mask-here.ensures) ∙ sym c.both.ensures ∙ c.if-both.false in (
-      omega arith,
-      ap (λ (i : ℕ). get_or (members_from c.args.m (c.loop-x.x + 1)) i 0)
-          (c.still-ahead.ensures ∙ ap (λ (b : Bool). pick b (c.loop-x.ahead - 1) c.loop-x.ahead) c.in_mask-here.ensures)
-          ∙ scan_next c.args.m c.loop-x.x c.loop-x.ahead c.loop-x-test.true t
-          ∙ c.loop-x.invariant.1,
-    )
+    elim c.if-in_mask.branch [
+      | then-in_mask+else-ahead-eq0 w ↦
+          rw w.ahead-is
+          (scan_next c.args.m c.loop-x.x c.loop-x.ahead c.loop-x-test.true (sym c.in_mask.ensures ∙ w.if-in_mask.true) (let h = w.if-ahead-eq0.false in omega arith)
+          ∙ c.loop-x.invariant)
+      | else-in_mask w ↦
+          rw w.ahead-is
+          (scan_over c.args.m c.loop-x.x c.loop-x.ahead c.loop-x-test.true (sym c.in_mask.ensures ∙ w.if-in_mask.false) ∙ c.loop-x.invariant)
+    ]

@@ -25,7 +25,7 @@ pub fn say_found(rt: &impl Print, m: Measures, bytes: &[u8])
 // Says the line of a search's answer, whose record stands at the start of `answer`.
 pub fn say_answer(rt: &impl Print, told: Result<Reported, Refusal>, answer: &[u8]) {
     match told {
-        Err(refusal) => say_refused(rt, u8::from(refusal)),
+        Err(e) => say_refused(rt, u8::from(e)),
         Ok(found) => {
             let size = found.size.min(answer.len()).min(15);
             say_found(rt, found.measures, &answer[..size]);

@@ -10,7 +10,6 @@ mod counts;
 mod lines;
 
 use console::output::{say, say_count, say_number};
-use sizes::Filled;
 
 fn main(rt: HostRuntime) {
     let mut room = [200u8; 40321];
@@ -47,8 +46,8 @@ fn tell_front(rt: &impl Print, room: &[u8], n: usize) {
 fn fill(rt: &impl Print, cells: &mut [u8]) {
     say_number(rt, cells.len() as u64);
     match sizes::fill(cells) {
-        Filled::Refused(code) => say_count(rt, b" refused ", code as u64),
-        Filled::Whole => say(rt, b" filled"),
+        Err(e) => say_count(rt, b" refused ", u64::from(u8::from(e))),
+        Ok(()) => say(rt, b" filled"),
     }
     say(rt, b"\n");
 }

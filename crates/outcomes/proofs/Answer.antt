@@ -1,5 +1,5 @@
 -- For the proofs of public calls: on each way out the answer is the one defined, and the record is at the front of the buffer.
-use mathlib.Core.Path.{◌≡◌, refl, ◌∙◌}
+use mathlib.Core.Path.{◌≡◌, refl, sym, ap, ◌∙◌}
 use mathlib.Core.Bool.{Bool, true, false}
 use mathlib.Core.List.{List, ◌++◌}
 use mathlib.Core.Option.{none}
@@ -12,9 +12,11 @@ use lib.ListN.{length, take, drop}
 use Rattle.logic.specs.Rules.{both, pick}
 use Rattle.logic.specs.Answers.{Answer, refused, answered}
 use Rattle.logic.proofs.Chain.{both_parts}
+use Rattle.record.specs.Answers.{number}
+use Rattle.record.specs.declared.refusal.Refusal.{Refusal}
+use Rattle.record.proofs.Refusals.{number_pos}
 use Rattle.record.specs.JobRules.{job_code}
 use Rattle.record.specs.job_fields.Jobs.{longer, most_controls, data_wires, ancillas}
-use Rattle.record.specs.circuit_fields.Circuits.{circuit_bytes}
 use Rattle.circuit.specs.declared.measures.Measures.{Measures}
 use Rattle.circuit.specs.measures.Measures.{measures_of}
 use Rattle.parity.specs.Parity.{is_odd, table_parity}
@@ -22,7 +24,7 @@ use Rattle.parity.proofs.Odd.{odd_is}
 use Rattle.problem.specs.declared.order.Best.{Best}
 use Rattle.problem.specs.order.View.{choice, view}
 use Rattle.problem.specs.Problems.{first_good}
-use Rattle.outcomes.specs.Outcomes.{GateSet, problem_over, record_of, Found, outcome_of, search_over, reported, written}
+use Rattle.outcomes.specs.Outcomes.{GateSet, problem_over, Found, search_over, reported, written}
 use Rattle.outcomes.specs.preflight.Odd.{always_none}
 use Rattle.outcomes.specs.Inner.{Lawfuls, told_of}
 use Rattle.outcomes.proofs.Facts.{odd_first}
@@ -31,6 +33,10 @@ module _ (G : GateSet) (job : List ℕ) (code : ℕ) where
   pub by_code : (code ≡ 0 → ⊥) → search_over G job code ≡ refused code
   unfolding search_over
   by_code n = rw (ne_eqb code 0 n)
+
+  -- a rule was broken
+  pub refused_is : (e : Refusal) → number e ≡ code → search_over G job code ≡ refused (number e)
+  refused_is e h = by_code (λ z. absurd (omega (arith, number_pos e))) ∙ ap refused (sym h)
 
   -- nothing was found
   pub none_is : code ≡ 0 → view None ≡ first_good (problem_over G job) → search_over G job code ≡ refused 14

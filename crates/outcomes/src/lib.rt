@@ -6,7 +6,7 @@
 
 pub mod preflight; // jobs that parity rules out before any search, and the price and duration of each gate
 
-ghost use Rattle.std.specs.Prelude.{◌≡◌, ◌≤◌, length, take, Ok, Err, MatchOption};
+ghost use Rattle.std.specs.Prelude.{◌≡◌, ◌≤◌, length, take, Some, None, IfOk, IfErr};
 ghost use Rattle.logic.specs.Answers.{answered};
 ghost use Rattle.record.specs.declared.refusal.Refusal.TheVariants as broken;
 ghost use Rattle.record.specs.JobRules.{job_code};
@@ -77,7 +77,8 @@ pub fn measures_of(job: &[u8], gates: &[u8]) -> Measures
 
 // The circuit that a search found, or the refusal where there is none.
 pub fn found(best: Option<Best>) -> Result<Best, Refusal>
-    ensures { MatchOption best (result ≡ Err broken.NoCircuit) (λ b. result ≡ Ok b) }
+    ensures ok { IfOk result (λ b. best ≡ Some b) }
+    ensures err { IfErr result (λ e. (best ≡ None) × (e ≡ broken.NoCircuit)) }
 {
     best.ok_or(Refusal::NoCircuit)
 }

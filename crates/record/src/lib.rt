@@ -70,6 +70,7 @@ fn durations_ok(job: &[u8]) -> bool
 }
 
 // Rule 6: every row of the table is in order.
+#[tactic(auto, unfolding(crate::specs::JobRules::rows_ok))]
 fn rows_ok(job: &[u8]) -> bool
     ensures { result ≡ rows_ok job.now }
 {

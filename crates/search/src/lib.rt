@@ -4,19 +4,21 @@
 // and `task_of` is a job as the solver's task.
 #![tactic(auto)]
 
-ghost use Rattle.std.specs.Prelude.{◌≡◌, ◌≤◌, length};
+ghost use Rattle.std.specs.Prelude.{◌≡◌, ◌≤◌, length, IfOk};
+ghost use Rattle.record.specs.Answers.{reply};
 ghost use Rattle.record.specs.JobRules.{job_code};
 ghost use Rattle.problem.specs.Entries.{entry_gates};
 ghost use Rattle.problem.specs.order.View.{view};
 ghost use Rattle.problem.specs.Problems.{first_good};
-ghost use Rattle.outcomes.specs.Outcomes.{GateSet, problem_over, problem_of, search_of, reported, written, searched_answer, size_in};
+ghost use Rattle.outcomes.specs.Outcomes.{GateSet, problem_over, problem_of, search_of, reported, written};
 ghost use Rattle.outcomes.specs.Inner.{Lawfuls, Tabled};
 ghost use Rattle.search.specs.Inner.{task_of};
 
 use columns::table_columns;
-use outcomes::{Searched, preflight};
+use outcomes::{Reported, preflight};
+use problem::Entry;
 use problem::order::Best;
-use problem::{Entry, best};
+use record::refusal::Refusal;
 use record::{call_codes, job_fields};
 use walk::node::Task;
 
@@ -37,23 +39,21 @@ pub fn task_of(job: &[u8]) -> Task
 }
 
 // The first good choice of a well-formed job among the gates of these entries, at their prices and durations.
-pub fn solve_among(job: &[u8], entries: &[Entry]) -> Best
+pub fn solve_among(job: &[u8], entries: &[Entry]) -> Option<Best>
     requires job_value { job_code job.now ≡ 0 }
     requires lawfuls { Lawfuls job.now (entry_gates entries.now) }
-    ensures result_value { (G : GateSet) → Tabled G entries.now → view result ≡ first_good (problem_over G job.now) }
-    ensures len_bound { result.len ≤ 12 }
+    ensures { (G : GateSet) → Tabled G entries.now → view result ≡ first_good (problem_over G job.now) }
 {
     if preflight::always_none(job) {
-        return best::nothing();
+        return None;
     }
     solver::solve(entries, task_of(job))
 }
 
 // The first good choice of a well-formed job among its own gates.
-pub fn first_good(job: &[u8]) -> Best
+pub fn first_good(job: &[u8]) -> Option<Best>
     requires { job_code job.now ≡ 0 }
-    ensures result_value { view result ≡ first_good (problem_of job.now) }
-    ensures len_bound { result.len ≤ 12 }
+    ensures { view result ≡ first_good (problem_of job.now) }
 {
     let own = outcomes::own_stock(job);
     solve_among(job, own.entries())
@@ -61,17 +61,13 @@ pub fn first_good(job: &[u8]) -> Best
 
 // Searches for the circuit that comes first by cost, then gates, depth, layout and gate bytes, and writes its record to the front of
 // `answer`.
-pub fn search(job: &[u8], answer: &mut [u8]) -> Searched
-    ensures result_value { searched_answer result ≡ reported (search_of job.now (length answer.old)) }
-    ensures result_bound { size_in result ≤ 15 }
+pub fn search(job: &[u8], answer: &mut [u8]) -> Result<Reported, Refusal>
+    ensures result_value { reply result ≡ reported (search_of job.now (length answer.old)) }
+    ensures result_bound { IfOk result (λ r. r.size ≤ 15) }
     ensures answer_after { answer.new ≡ written (search_of job.now (length answer.old)) answer.old }
 {
-    let code = call_codes::search_code(job, answer.len());
-    if code != 0 {
-        return Searched::Refused(code);
-    }
-    let best = first_good(job);
-    let path = best.path;
-    let measures = outcomes::measures_of(job, path, best.len);
-    outcomes::tell(job, best, measures, answer)
+    call_codes::check_search(job, answer.len())?;
+    let best = outcomes::found(first_good(job))?;
+    let measures = outcomes::measures_of(job, best.gates());
+    Ok(outcomes::tell(job, best, measures, answer))
 }

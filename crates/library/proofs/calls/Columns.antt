@@ -1,14 +1,13 @@
 -- The entries of a sound library: each is the first of its gate, so that its price and duration are the gate's.
-use mathlib.Core.Path.{◌≡◌, refl, sym, ap, ◌∙◌, subst}
+use mathlib.Core.Path.{◌≡◌, refl, sym, ap}
 use mathlib.Core.Bool.{true}
-use mathlib.Core.List.{List, [], ◌∷◌, map}
-use Prim.Native.Nat.{ℕ, zero, suc, ◌+◌, ◌*◌, ◌/◌, ◌≤◌, ◌<◌}
+use mathlib.Core.List.{List, [], ◌∷◌}
+use Prim.Native.Nat.{ℕ, zero, suc, ◌≤◌, ◌<◌}
 use native.Mathlib.Nat.{not-suc-le-zero, le_of_suc-le-suc}
 use native.Mathlib.Omega.{arith}
 use borrow.Author.Tests.{eq-eqb, ne_eqb, leb-true}
 use lib.Dec.{leb}
-use lib.ListN.{length, get_or, take}
-use lib.Seq.{ext_get_or, get_or-take, length-take-le}
+use lib.ListN.{length, get_or}
 use Rattle.logic.specs.Rules.{both}
 use Rattle.logic.proofs.Chain.{both_left, both_right}
 use Rattle.gate.specs.Gates.{lawful}
@@ -17,9 +16,7 @@ use Rattle.outcomes.specs.Inner.{Lawfuls, Tabled}
 use Rattle.problem.specs.declared.Entry.{Entry}
 use Rattle.library.specs.entries.Library.{entries_of, gates_in, entry_for, entry_ok, entries_ok, library_code}
 use Rattle.library.specs.calls.Calls.{set_in}
-use Rattle.library.specs.entries.Inner.{entry_at}
-use Rattle.library.proofs.entries.Entries.{length_entries, entry_is}
-use Rattle.library.proofs.calls.Sound.{gate_in, sound_library, gates_lawful}
+use Rattle.library.proofs.calls.Sound.{sound_library, gates_lawful}
 
 module _ (k w : ℕ) (d : Entry) where
   entry_above : (least : ℕ) (e : Entry) → entry_ok k w least e ≡ true → least ≤ e.gate

@@ -1,9 +1,6 @@
 -- The entries of a sound library are its gates with their prices and durations.
-use mathlib.Core.Path.{◌≡◌, ◌∙◌}
-use Rattle.outcomes.specs.Inner.{Lawfuls, Tabled}
-use Rattle.problem.specs.Entries.{entry_gates}
+use mathlib.Core.Path.{◌∙◌}
 use Rattle.library.specs.calls.Calls.{set_in}
-use Rattle.library.specs.entries.Library.{entries_of}
 use Rattle.library.proofs.calls.Sound.{sound_library}
 use Rattle.library.proofs.calls.Columns.{tabled, lawful_entries}
 use Rattle.library.proofs.first_good.Goals as goal

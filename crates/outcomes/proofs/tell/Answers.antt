@@ -1,7 +1,7 @@
-use mathlib.Core.Path.{◌≡◌, refl, sym, ap, ◌∙◌}
+use mathlib.Core.Path.{◌≡◌, refl, ap, ◌∙◌}
 use mathlib.Core.Bool.{Bool}
 use mathlib.Core.List.{List, ◌++◌}
-use Prim.Native.Nat.{ℕ, ◌+◌}
+use Prim.Native.Nat.{ℕ}
 use native.Mathlib.Omega.{arith}
 use borrow.Author.Rules.{rules}
 use lib.ListN.{length, take, drop}
@@ -36,7 +36,7 @@ returns c =
     let long : length c.args.best.path ≡ 12 = search rules in
     let short = c.args.best.short in
     let is = record_is c.args.job.now c.data_wires-n.result c.ancillas-m.result c.longer-mark.result c.args.best.layout (take c.args.best.len c.args.best.path)
-        c.data_wires-n.ensures.value c.ancillas-m.ensures c.longer-mark.ensures in
+    c.data_wires-n.ensures.value c.ancillas-m.ensures c.longer-mark.ensures in
     let bytes = circuit_bytes c.data_wires-n.result c.ancillas-m.result c.longer-mark.result c.args.best.layout (take c.args.best.len c.args.best.path) in
     let whole = record_size_law c.data_wires-n.result c.ancillas-m.result c.longer-mark.result c.args.best.layout c.args.best.path c.args.best.len (omega arith) in
     let size = c.write_record-size.ensures.value ∙ whole ∙ ap length is in

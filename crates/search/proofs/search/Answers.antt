@@ -1,53 +1,64 @@
--- A rule broken, or the first good choice, told with its measures.
+-- A rule broken, nothing found, or the first good choice, told with its measures.
 use mathlib.Core.Path.{◌≡◌, sym, ap, ◌∙◌}
-use Prim.Native.Nat.{◌≤◌}
+use borrow.Author.Rules.{rules}
 use lib.ListN.{length}
-use Rattle.record.specs.JobRules.{job_code}
-use Rattle.logic.specs.Answers.{Answer}
-use Rattle.outcomes.specs.Outcomes.{Found, own_set, search_of, search_over, reported, written}
+use Rattle.logic.specs.Answers.{Answer, refused}
+use Rattle.problem.specs.order.View.{view, choice}
+use Rattle.circuit.specs.measures.Measures.{measures_of}
+use Rattle.record.specs.job_fields.Jobs.{price_of, duration_of}
+use Rattle.record.specs.Answers.{number}
 use Rattle.record.specs.pair_codes.Codes.{search_code}
+use Rattle.outcomes.specs.Outcomes.{Found, own_set, search_of, reported, written}
+use Rattle.outcomes.specs.Inner.{told_of}
 use Rattle.outcomes.proofs.Facts.{code_parts}
-use Rattle.outcomes.proofs.Answer.{by_code, told_is}
+use Rattle.outcomes.proofs.Answer.{refused_is, none_is, told_is}
 use Rattle.search.proofs.search.Goals as goal
-use Rattle.search.proofs.search.Goals.{Else-code-ne0}
+use Rattle.search.proofs.search.Goals.{In_err-check_search, In_ok-check_search, In_err-best, After-tell}
 
--- past the checks
-kept : (c : Else-code-ne0) → (search_code c.args.job.now (length c.args.answer.now) ≡ 0)
-kept c = sym c.search_code-code.ensures ∙ c.if-code-ne0.false
+-- what the checks let through
+kept : (c : In_ok-check_search) → search_code c.args.job.now (length c.args.answer.now) ≡ 0
+kept c = sym c.in_ok-check_search.ensures
 
-sound : (c : Else-code-ne0)
-    → ((job_code c.args.job.now ≡ 0) × (15 ≤ length c.args.answer.now))
-sound c =
-    code_parts c.args.job.now (length c.args.answer.now) (kept c)
-
-pub returns-then-code-ne0-clause-result_value : goal.returns-then-code-ne0-clause-result_value
+-- what the search answers, on each way out
+refusal : (c : In_err-check_search) → search_of c.args.job.now (length c.args.answer.now) ≡ refused (number c.in_err-check_search.field-0.0)
 unfolding search_of
-returns-then-code-ne0-clause-result_value c =
-    let e = by_code (own_set c.args.job.now) c.args.job.now c.search_code-code.result c.if-code-ne0.true in
-    let r = ap (search_over (own_set c.args.job.now) c.args.job.now) (sym c.search_code-code.ensures) ∙ e in sym (ap reported r)
+refusal c = refused_is (own_set c.args.job.now) c.args.job.now _ c.in_err-check_search.field-0.0 c.in_err-check_search.ensures
 
-pub returns-then-code-ne0-clause-answer_after : goal.returns-then-code-ne0-clause-answer_after
+nothing : (c : In_err-best) → search_of c.args.job.now (length c.args.answer.now) ≡ refused (number c.in_err-best.field-0.0)
 unfolding search_of
-returns-then-code-ne0-clause-answer_after c =
-    let e = by_code (own_set c.args.job.now) c.args.job.now c.search_code-code.result c.if-code-ne0.true in
-    let r = ap (search_over (own_set c.args.job.now) c.args.job.now) (sym c.search_code-code.ensures) ∙ e in sym (ap (λ (o : Answer Found). written o c.args.answer.now) r)
+nothing c =
+    none_is (own_set c.args.job.now) c.args.job.now _ (sym c.in_ok-check_search.ensures) (sym (ap view c.in_err-best.ensures.err.0) ∙ c.first_good.ensures)
+    ∙ sym (ap (λ e. refused (number e)) c.in_err-best.ensures.err.1)
 
-pub first_good-best-requires : goal.first_good-best-requires
-first_good-best-requires c = (sound (goal.at.first_good-best-requires c).Else-code-ne0).0
-
-pub tell-requires-clause-in_bounds : goal.tell-requires-clause-in_bounds
-tell-requires-clause-in_bounds c = (sound (goal.at.tell-requires-clause-in_bounds c).Else-code-ne0).1
-
-pub returns-clause-answer_after : goal.returns-clause-answer_after
+found : (c : After-tell) → told_of c.args.job.now c.measures_of-measures.result (choice c.in_ok-best.best) ≡ search_of c.args.job.now (length c.args.answer.now)
 unfolding search_of
-returns-clause-answer_after c =
-    let e
-    = told_is (own_set c.args.job.now) c.args.job.now (search_code c.args.job.now (length c.args.answer.now)) (kept (goal.at.returns-clause-answer_after c).Else-code-ne0) c.first_good-best.result
-    c.first_good-best.ensures.result_value c.measures_of-measures.result c.measures_of-measures.ensures in c.tell.ensures.answer_after ∙ ap (λ (o : Answer Found). written o c.args.answer.now) e
+found c =
+    told_is (own_set c.args.job.now) c.args.job.now _ (sym c.in_ok-check_search.ensures) c.in_ok-best.best (sym (ap view c.in_ok-best.ensures.ok) ∙ c.first_good.ensures)
+    c.measures_of-measures.result (c.measures_of-measures.ensures ∙ ap (measures_of (price_of c.args.job.now) (duration_of c.args.job.now)) c.gates.ensures)
+
+pub first_good-requires : goal.first_good-requires
+first_good-requires c = (code_parts c.args.job.now (length c.args.answer.now) (kept c)).0
+
+pub tell-requires : goal.tell-requires
+tell-requires c = (code_parts c.args.job.now (length c.args.answer.now) (kept (goal.at.tell-requires c).In_ok-check_search)).1
+
+pub returns-in_err-check_search-clause-result_value : goal.returns-in_err-check_search-clause-result_value
+returns-in_err-check_search-clause-result_value c = rw (ap reported (refusal (goal.at.returns-in_err-check_search-clause-result_value c).In_err-check_search)) (search rules)
+
+pub returns-in_err-check_search-clause-answer_after : goal.returns-in_err-check_search-clause-answer_after
+returns-in_err-check_search-clause-answer_after c =
+    sym (ap (λ (o : Answer Found). written o c.args.answer.now) (refusal (goal.at.returns-in_err-check_search-clause-answer_after c).In_err-check_search))
+
+pub returns-in_err-best-clause-result_value : goal.returns-in_err-best-clause-result_value
+returns-in_err-best-clause-result_value c = rw (ap reported (nothing (goal.at.returns-in_err-best-clause-result_value c).In_err-best)) (search rules)
+
+pub returns-in_err-best-clause-answer_after : goal.returns-in_err-best-clause-answer_after
+returns-in_err-best-clause-answer_after c =
+    sym (ap (λ (o : Answer Found). written o c.args.answer.now) (nothing (goal.at.returns-in_err-best-clause-answer_after c).In_err-best))
 
 pub returns-clause-result_value : goal.returns-clause-result_value
-unfolding search_of
-returns-clause-result_value c =
-    let e
-    = told_is (own_set c.args.job.now) c.args.job.now (search_code c.args.job.now (length c.args.answer.now)) (kept (goal.at.returns-clause-result_value c).Else-code-ne0) c.first_good-best.result
-    c.first_good-best.ensures.result_value c.measures_of-measures.result c.measures_of-measures.ensures in c.tell.ensures.result_value ∙ ap reported e
+returns-clause-result_value c = c.tell.ensures.result_value ∙ ap reported (found (goal.at.returns-clause-result_value c).After-tell)
+
+pub returns-clause-answer_after : goal.returns-clause-answer_after
+returns-clause-answer_after c =
+    c.tell.ensures.answer_after ∙ ap (λ (o : Answer Found). written o c.args.answer.now) (found (goal.at.returns-clause-answer_after c).After-tell)

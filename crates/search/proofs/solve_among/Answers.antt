@@ -1,5 +1,6 @@
 -- No search where parity rules every list out. Else what is handed to the solver poses the problem of the job and these gates.
 use mathlib.Core.Path.{sym, subst, ◌∙◌}
+use Rattle.problem.specs.order.View.{view}
 use Rattle.outcomes.specs.Outcomes.{problem_over}
 use Rattle.outcomes.specs.Inner.{Lawfuls}
 use Rattle.outcomes.proofs.Answer.{odd_nothing}
@@ -11,8 +12,9 @@ use Rattle.search.proofs.solve_among.Goals.{After-task_of}
 handed : (c : After-task_of) → Handed c.args.job.now c.task_of.result c.args.entries.now
 handed c = record { sound = c.requires.job_value; kept = c.requires.lawfuls; tasked = c.task_of.ensures }
 
-pub returns-then-always_none-clause-result_value : goal.returns-then-always_none-clause-result_value
-returns-then-always_none-clause-result_value c = let odd = sym c.always_none.ensures ∙ c.if-always_none.true in (λ G t. c.nothing.ensures.0 ∙ sym (odd_nothing G c.args.job.now c.requires.job_value (subst (Lawfuls c.args.job.now) t.listed c.requires.lawfuls) odd))
+pub returns-then-always_none : goal.returns-then-always_none
+unfolding view
+returns-then-always_none c = let odd = sym c.always_none.ensures ∙ c.if-always_none.true in (λ G t. sym (odd_nothing G c.args.job.now c.requires.job_value (subst (Lawfuls c.args.job.now) t.listed c.requires.lawfuls) odd))
 
 pub solve-requires-clause-known : goal.solve-requires-clause-known
 solve-requires-clause-known c = on_wires (handed (goal.at.solve-requires-clause-known c).After-task_of)
@@ -20,5 +22,5 @@ solve-requires-clause-known c = on_wires (handed (goal.at.solve-requires-clause-
 pub solve-requires-clause-fair : goal.solve-requires-clause-fair
 solve-requires-clause-fair c = in_range (handed (goal.at.solve-requires-clause-fair c).After-task_of)
 
-pub returns-clause-result_value : goal.returns-clause-result_value
-returns-clause-result_value c = let h = handed (goal.at.returns-clause-result_value c).After-task_of in (λ G t. c.solve.ensures.result_value (problem_over G c.args.job.now) (posed h t) (limited h t))
+pub returns : goal.returns
+returns c = let h = handed (goal.at.returns c).After-task_of in (λ G t. c.solve.ensures (problem_over G c.args.job.now) (posed h t) (limited h t))

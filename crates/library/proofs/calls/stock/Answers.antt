@@ -1,6 +1,6 @@
 use mathlib.Core.Path.{◌≡◌, ap, sym, ◌∙◌}
 use mathlib.Core.List.{[], ◌∷◌, ◌++◌}
-use Prim.Native.Nat.{◌/◌, ◌<◌}
+use Prim.Native.Nat.{◌/◌}
 use native.Mathlib.Omega.{arith}
 use lib.ListN.{length, length-set, take}
 use lib.Seq.{take_all}
@@ -19,8 +19,8 @@ loop-i-preserved c =
     let same = c.entry_at.ensures ∙ sym (entry_is lib c.loop-i.i none within) in (
       length-set c.loop-i.all c.loop-i.i c.entry_at.result ∙ v.0,
       take_more_set c.loop-i.all c.loop-i.i c.entry_at.result (omega (arith, c.requires))
-      ∙ (λ i. v.1 i ++ (same i ∷ []))
-      ∙ sym (take_more (entries_of lib) c.loop-i.i none (omega (arith, length_entries lib))),
+          ∙ (λ i. v.1 i ++ (same i ∷ []))
+          ∙ sym (take_more (entries_of lib) c.loop-i.i none (omega (arith, length_entries lib))),
     )
 
 pub returns : goal.returns

@@ -1,15 +1,15 @@
 // The two lines of a pass, and the report on an answer of `verify`: these lines, or those of a refusal.
 ghost use Rattle.std.specs.Prelude.{◌≡◌, ◌+◌, ◌≤◌, length};
-ghost use Rattle.verify.specs.Calls.{measured_answer};
+ghost use Rattle.record.specs.Answers.{reply};
 ghost use Rattle.text.specs.pieces.Text.{in_front};
 ghost use Rattle.text.specs.pieces.Writing.{Wrote};
 ghost use Rattle.reports.specs.refusal.Report.{passed_line, times, ready_line, passed_text, report_of};
 
 use crate::refusal;
 use circuit::measures::Measures;
+use record::refusal::Refusal;
 use text::pieces;
 use text::pieces::put_text;
-use verify::Measured;
 
 // Writes `passed`, the gates, the cost and the depth at the start of the buffer.
 fn put_passed(out: &mut [u8], m: Measures) -> usize
@@ -56,14 +56,14 @@ pub fn passed_text(m: Measures, out: &mut [u8]) -> usize
 }
 
 // Writes the report on an answer of `verify` at the start of the buffer, and answers its length.
-pub fn report(answer: Measured, out: &mut [u8]) -> usize
+pub fn report(answer: Result<Measures, Refusal>, out: &mut [u8]) -> usize
     requires { 128 ≤ length out.old }
-    ensures value { result ≡ length (report_of (measured_answer answer)) }
+    ensures value { result ≡ length (report_of (reply answer)) }
     ensures upper_bound { result ≤ 128 }
-    ensures out_after { out.new ≡ in_front (report_of (measured_answer answer)) out.old }
+    ensures out_after { out.new ≡ in_front (report_of (reply answer)) out.old }
 {
     match answer {
-        Measured::Refused(code) => refusal::refused_text(code, out),
-        Measured::Within(m) => passed_text(m, out),
+        Ok(m) => passed_text(m, out),
+        Err(broken) => refusal::refused_text(u8::from(broken), out),
     }
 }

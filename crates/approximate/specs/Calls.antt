@@ -6,7 +6,8 @@ use Rattle.logic.specs.Answers.{Answer, refused, answered}
 use Rattle.record.specs.job_fields.Jobs.{data_wires, rows}
 use Rattle.problem.specs.order.Choices.{Choice}
 use Rattle.near_misses.specs.misses.Misses.{missed_in, fewest_misses, closest_choice}
-use Rattle.outcomes.specs.Outcomes.{own_set, problem_of, Found, found_of, Reported, reported}
+use Rattle.outcomes.specs.declared.Reported.{Reported}
+use Rattle.outcomes.specs.Outcomes.{own_set, problem_of, Found, found_of, reported}
 use Rattle.record.specs.pair_codes.Codes.{search_code}
 use Rattle.approximate.specs.declared.Nearest.{Nearest}
 
@@ -37,26 +38,12 @@ abbrev pub circuit_in : Answer Close → Answer Found
 circuit_in (refused code) = refused code
 circuit_in (answered c) = answered c.circuit
 
--- what is returned: what the search returns, "plus the misses"
-pub record Told : Type 0 where
-  pub report : Reported
-  pub misses : ℕ
-
-abbrev pub with_misses : ℕ → Answer Reported → Answer Told
+-- what is returned is what the search returns, "plus the misses"
+abbrev pub with_misses : ℕ → Answer Reported → Answer Nearest
 with_misses k (refused code) = refused code
 with_misses k (answered r) = answered (record { report = r; misses = k })
 
 -- the part of an answer that is returned
-abbrev pub told : Answer Close → Answer Told
+abbrev pub told : Answer Close → Answer Nearest
 told (refused code) = refused code
 told (answered c) = with_misses c.misses (reported (answered c.circuit))
-
--- the code's enum as an answer: the refusal code, or what is returned
-abbrev pub nearest_answer : Nearest → Answer Told
-nearest_answer (Nearest.Refused code) = refused code
-nearest_answer (Nearest.Found size m k) = answered (record { report = record { size = size; measures = m }; misses = k })
-
--- the length of the record in an answer, 0 for a refusal
-abbrev pub nearest_size : Nearest → ℕ
-nearest_size (Nearest.Refused code) = 0
-nearest_size (Nearest.Found size m k) = size

@@ -4,41 +4,41 @@
 // (proofs/Promises.antt).
 #![tactic(auto)]
 
-ghost use Rattle.std.specs.Prelude.{◌≡◌, ◌≤◌, length};
+ghost use Rattle.std.specs.Prelude.{◌≡◌, ◌≤◌, length, IfOk};
+ghost use Rattle.record.specs.Answers.{reply};
 ghost use Rattle.record.specs.JobRules.{job_code};
 ghost use Rattle.record.specs.job_fields.Jobs.{data_wires, rows};
 ghost use Rattle.problem.specs.order.View.{view};
 ghost use Rattle.problem.specs.Problems.{first_good};
 ghost use Rattle.near_misses.specs.misses.Misses.{missing_at_most};
-ghost use Rattle.outcomes.specs.Outcomes.{problem_of, written, searched_answer, size_in};
-ghost use Rattle.approximate.specs.Calls.{fewest_for, closest_for, closest_of, circuit_in, with_misses, told, nearest_answer, nearest_size};
+ghost use Rattle.outcomes.specs.Outcomes.{problem_of, written};
+ghost use Rattle.approximate.specs.Calls.{fewest_for, closest_for, closest_of, circuit_in, told};
 
-use circuit::measures::Measures;
 use near_misses::near_walk;
-use outcomes::Searched;
+use outcomes::Reported;
 use problem::order::Best;
 use record::call_codes;
+use record::refusal::Refusal;
 
-// The answer: a refusal code, or the record's length, its measures, and the number of wanted bits missed.
+// What is reported of the closest circuit: what the search reports of one, and the number of wanted bits that it misses.
 #[derive(Clone, Copy)]
-pub enum Nearest {
-    Refused(u8),
-    Found(usize, Measures, usize),
+pub struct Nearest {
+    pub report: Reported,
+    pub misses: usize,
 }
 
 // The closest choice, and the number of wanted bits that it misses.
 #[derive(Clone, Copy)]
 struct Near {
     misses: usize,
-    best: Best,
+    best: Option<Best>,
 }
 
 // The first choice within the limits of a well-formed job that misses at most `k` wanted bits.
-fn at_most(job: &[u8], k: usize) -> Best
+fn at_most(job: &[u8], k: usize) -> Option<Best>
     requires { job_code job.now ≡ 0 }
-    ensures result_value { view result
+    ensures { view result
         ≡ first_good (missing_at_most (data_wires job.now) (rows job.now) k (problem_of job.now)) }
-    ensures len_bound { result.len ≤ 12 }
 {
     let own = outcomes::own_stock(job);
     near_walk::run(own.entries(), search::task_of(job), k)
@@ -48,12 +48,11 @@ fn at_most(job: &[u8], k: usize) -> Best
 // most 64 bits, so that 64 turns are enough.
 fn approach(job: &[u8]) -> Near
     requires { job_code job.now ≡ 0 }
-    ensures misses_value { (result.misses ≡ fewest_for job.now) × (view result.best ≡ closest_for job.now) }
-    ensures len_bound { result.best.len ≤ 12 }
+    ensures { (result.misses ≡ fewest_for job.now) × (view result.best ≡ closest_for job.now) }
 {
     let mut best = search::first_good(job);
     for k in 0..64 {
-        if best.found {
+        if best.is_some() {
             return Near { misses: k, best };
         }
         let next = at_most(job, k + 1);
@@ -62,32 +61,20 @@ fn approach(job: &[u8]) -> Near
     Near { misses: 64, best }
 }
 
-// A search's answer, with the number of wanted bits missed.
-fn with_misses(searched: Searched, k: usize) -> Nearest
-    ensures result_value { nearest_answer result ≡ with_misses k (searched_answer searched) }
-    ensures result_value_2 { nearest_size result ≡ size_in searched }
-{
-    match searched {
-        Searched::Refused(code) => Nearest::Refused(code),
-        Searched::Found(size, m) => Nearest::Found(size, m, k),
-    }
-}
-
 // Searches for the circuit within all limits that misses the fewest wanted bits, of several the first in the search's order, and writes its
 // record to the front of `answer`.
-pub fn closest(job: &[u8], answer: &mut [u8]) -> Nearest
-    ensures result_value { nearest_answer result ≡ told (closest_of job.now (length answer.old)) }
-    ensures result_bound { nearest_size result ≤ 15 }
+pub fn closest(job: &[u8], answer: &mut [u8]) -> Result<Nearest, Refusal>
+    ensures result_value { reply result ≡ told (closest_of job.now (length answer.old)) }
+    ensures result_bound { IfOk result (λ n. n.report.size ≤ 15) }
     ensures answer_after { answer.new
         ≡ written (circuit_in (closest_of job.now (length answer.old))) answer.old }
 {
-    let code = call_codes::search_code(job, answer.len());
-    if code != 0 {
-        return Nearest::Refused(code);
-    }
+    call_codes::check_search(job, answer.len())?;
     let near = approach(job);
-    let best = near.best;
-    let path = best.path;
-    let measures = outcomes::measures_of(job, path, best.len);
-    with_misses(outcomes::tell(job, best, measures, answer), near.misses)
+    let best = outcomes::found(near.best)?;
+    let measures = outcomes::measures_of(job, best.gates());
+    Ok(Nearest {
+        report: outcomes::tell(job, best, measures, answer),
+        misses: near.misses,
+    })
 }

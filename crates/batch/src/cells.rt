@@ -1,22 +1,19 @@
-// The answer of a batch and its two rules. What it leaves in each cell and status byte is defined in specs/cells/Batches.antt; the theorems
+// The two rules of a batch. What it leaves in each cell and status byte is defined in specs/cells/Batches.antt; the theorems
 // on that are in proofs/cells/Promises.antt.
-ghost use Rattle.std.specs.Prelude.{◌≡◌, ◌*◌};
+ghost use Rattle.std.specs.Prelude.{◌≡◌};
+ghost use Rattle.record.specs.Answers.{code_of};
 ghost use Rattle.batch.specs.cells.Batches.{batch_code};
 
 use crate::cutting;
+use record::refusal;
+use record::refusal::Refusal;
 
-// A batch's answer: a refusal code, or the number of jobs.
-#[derive(Clone, Copy)]
-pub enum Batched {
-    Refused(u8),
-    Jobs(usize),
-}
-
-// The code of the first rule that a batch breaks, or 0, given the lengths of the two buffers.
-pub fn batch_code(jobs: &[u8], answers: usize, statuses: usize) -> u8
-    ensures { result ≡ batch_code jobs.now answers statuses }
+// Checks a batch, given the lengths of the two buffers: all of it is job records, and there is room for each.
+#[tactic(auto, using(crate::proofs::cells::Codes::roomy), unfolding(crate::specs::cells::Batches::batch_code))]
+pub fn check_batch(jobs: &[u8], answers: usize, statuses: usize) -> Result<(), Refusal>
+    ensures { code_of result ≡ batch_code jobs.now answers statuses }
 {
     let cut = cutting::cut_off(jobs);
-    let roomy = logic::both(15 * cut.count <= answers, cut.count <= statuses);
-    logic::rule(cut.end == jobs.len(), 26, logic::rule(roomy, 27, 0))
+    refusal::kept(cut.end == jobs.len(), Refusal::BatchForm)?;
+    refusal::kept(15 * cut.count <= answers && cut.count <= statuses, Refusal::BatchRoom)
 }

@@ -7,13 +7,13 @@ pub mod cells; // the rules of a batch, what it leaves in each cell and status b
 pub mod cutting; // the records of a batch, cut off one after the other
 
 ghost use Rattle.std.specs.Prelude.{◌≡◌, ◌*◌, ◌≤◌, ◌++◌, length, take, drop, set};
+ghost use Rattle.record.specs.Answers.{reply};
 ghost use Rattle.outcomes.specs.Outcomes.{written};
 ghost use Rattle.batch.specs.cutting.Records.{records};
 ghost use Rattle.batch.specs.cells.Batches.{batch_of, alone_of, status_of, cells_after};
-ghost use Rattle.batch.specs.cells.Batches.{statuses_after, answers_left, statuses_left, batched_answer};
+ghost use Rattle.batch.specs.cells.Batches.{statuses_after, answers_left, statuses_left};
 
-pub use crate::cells::Batched;
-use outcomes::Searched;
+use record::refusal::Refusal;
 
 // Searches one job into its cell, and returns its status: 0 or the refusal code.
 fn search_cell(job: &[u8], cell: &mut [u8]) -> u8
@@ -22,8 +22,8 @@ fn search_cell(job: &[u8], cell: &mut [u8]) -> u8
     ensures cell_after { cell.new ≡ written (alone_of job.now) cell.old }
 {
     match search::search(job, cell) {
-        Searched::Refused(code) => code,
-        Searched::Found(_, _) => 0,
+        Ok(_) => 0,
+        Err(refusal) => u8::from(refusal),
     }
 }
 
@@ -63,16 +63,12 @@ fn search_each(most: usize, jobs: &[u8], answers: &mut [u8], statuses: &mut [u8]
 }
 
 // Searches every job of a batch into its own cell and status byte, and returns the number of jobs.
-pub fn search_all(jobs: &[u8], answers: &mut [u8], statuses: &mut [u8]) -> Batched
-    ensures result_value { batched_answer result ≡ batch_of jobs.now (length answers.old) (length statuses.old) }
+pub fn search_all(jobs: &[u8], answers: &mut [u8], statuses: &mut [u8]) -> Result<usize, Refusal>
+    ensures result_value { reply result ≡ batch_of jobs.now (length answers.old) (length statuses.old) }
     ensures answers_after { answers.new ≡ answers_left jobs.now answers.old statuses.old }
     ensures statuses_after { statuses.new ≡ statuses_left jobs.now answers.old statuses.old }
 {
-    let code = cells::batch_code(jobs, answers.len(), statuses.len());
-    if code != 0 {
-        return Batched::Refused(code);
-    }
+    cells::check_batch(jobs, answers.len(), statuses.len())?;
     search_each(64, jobs, answers, statuses);
-    let cut = cutting::cut_off(jobs);
-    Batched::Jobs(cut.count)
+    Ok(cutting::cut_off(jobs).count)
 }

@@ -1,10 +1,12 @@
 // The entries of a library, three bytes each (gate, price, duration), and the checks of a library.
 ghost use Rattle.std.specs.Prelude.{◌≡◌, true, ◌<◌, ◌+◌, ◌*◌, ◌/◌, length};
+ghost use Rattle.record.specs.Answers.{code_of};
 ghost use Rattle.library.specs.entries.Library.{entries_of, library_size_ok, entry_ok, entries_ok, library_sound, library_code};
 ghost use Rattle.library.specs.entries.Inner.{entry_at};
 
 use problem::Entry;
-use record::job_fields;
+use record::refusal::Refusal;
+use record::{job_fields, refusal};
 
 // Entry `i`, counted from 0.
 #[tactic(auto, unfolding(crate::specs::entries::Inner::entry_at))]
@@ -63,12 +65,11 @@ fn library_sound(job: &[u8], library: &[u8]) -> bool
     )
 }
 
-// The code of the first rule that a library breaks, or 0.
-pub fn library_code(job: &[u8], library: &[u8]) -> u8
-    ensures { result ≡ library_code job.now library.now }
+// Checks a library: its length, then its entries.
+#[tactic(auto, unfolding(crate::specs::entries::Library::library_code))]
+pub fn check_library(job: &[u8], library: &[u8]) -> Result<(), Refusal>
+    ensures { code_of result ≡ library_code job.now library.now }
 {
-    if !library_size_ok(library) {
-        return 29;
-    }
-    logic::rule(library_sound(job, library), 30, 0)
+    refusal::kept(library_size_ok(library), Refusal::LibraryLength)?;
+    refusal::kept(library_sound(job, library), Refusal::LibraryEntry)
 }

@@ -7,24 +7,25 @@ pub mod entries; // a library's bytes as entries, and their checks
 pub mod entry_measures; // the cost and the ready times of a gate list by a library
 pub mod calls; // `verify_with`, and what `search_with` is made of
 
-ghost use Rattle.std.specs.Prelude.{◌≡◌, ◌≤◌, length};
+ghost use Rattle.std.specs.Prelude.{◌≡◌, ◌≤◌, length, IfOk};
+ghost use Rattle.record.specs.Answers.{reply};
 ghost use Rattle.record.specs.JobRules.{job_code};
 ghost use Rattle.problem.specs.order.View.{view};
 ghost use Rattle.problem.specs.Problems.{first_good};
-ghost use Rattle.outcomes.specs.Outcomes.{reported, written, searched_answer, size_in};
+ghost use Rattle.outcomes.specs.Outcomes.{reported, written};
 ghost use Rattle.library.specs.entries.Library.{library_code};
 ghost use Rattle.library.specs.calls.Calls.{problem_with, search_with};
 
 pub use crate::calls::verify_with;
-use outcomes::Searched;
+use outcomes::Reported;
 use problem::order::Best;
+use record::refusal::Refusal;
 
 // The first good choice of a well-formed job among the gates of a sound library.
-fn first_good(job: &[u8], library: &[u8]) -> Best
+fn first_good(job: &[u8], library: &[u8]) -> Option<Best>
     requires job_value { job_code job.now ≡ 0 }
     requires library_value { library_code job.now library.now ≡ 0 }
-    ensures result_value { view result ≡ first_good (problem_with job.now library.now) }
-    ensures len_bound { result.len ≤ 12 }
+    ensures { view result ≡ first_good (problem_with job.now library.now) }
 {
     let stock = calls::stock(library);
     search::solve_among(job, stock.entries())
@@ -32,18 +33,14 @@ fn first_good(job: &[u8], library: &[u8]) -> Best
 
 // Searches among the gates of a library for the circuit that comes first by cost, then gates, depth, layout and gate bytes, and writes its
 // record to the front of `answer`.
-pub fn search_with(job: &[u8], library: &[u8], answer: &mut [u8]) -> Searched
-    ensures result_value { searched_answer result ≡ reported (search_with job.now library.now (length answer.old)) }
-    ensures result_bound { size_in result ≤ 15 }
+pub fn search_with(job: &[u8], library: &[u8], answer: &mut [u8]) -> Result<Reported, Refusal>
+    ensures result_value { reply result ≡ reported (search_with job.now library.now (length answer.old)) }
+    ensures result_bound { IfOk result (λ r. r.size ≤ 15) }
     ensures answer_after { answer.new
         ≡ written (search_with job.now library.now (length answer.old)) answer.old }
 {
-    let code = calls::search_with_code(job, library, answer.len());
-    if code != 0 {
-        return Searched::Refused(code);
-    }
-    let best = first_good(job, library);
-    let path = best.path;
-    let measures = calls::measures_of(library, path, best.len);
-    outcomes::tell(job, best, measures, answer)
+    calls::check_search_with(job, library, answer.len())?;
+    let best = outcomes::found(first_good(job, library))?;
+    let measures = calls::measures_of(library, best.gates());
+    Ok(outcomes::tell(job, best, measures, answer))
 }

@@ -2,8 +2,8 @@
 use Rattle.std.specs.Prelude.{List, ℕ, eqb, ℤ}
 use Rattle.logic.specs.Rules.{pick}
 use Rattle.logic.specs.Answers.{Answer, refused, answered}
-use Rattle.outcomes.specs.Outcomes.{Reported, reported, search_of}
-use Rattle.sensitivity.specs.declared.Change.{Change}
+use Rattle.outcomes.specs.declared.Reported.{Reported}
+use Rattle.outcomes.specs.Outcomes.{reported, search_of}
 use Rattle.sensitivity.specs.alike.Alike.{compare_code, cost_difference}
 
 -- the difference of what the two searches report, or the refusal of the first that found nothing
@@ -17,8 +17,3 @@ unfoldable pub price_change : List ℕ → List ℕ → Answer ℤ
 price_change old new =
     pick (eqb (compare_code old new) 0) (change_between (reported (search_of old 15)) (reported (search_of new 15)))
     (refused (compare_code old new))
-
--- the code's enum as an answer: the refusal code, or the difference
-abbrev pub change_answer : Change → Answer ℤ
-change_answer (Change.Refused code) = refused code
-change_answer (Change.By difference) = answered difference

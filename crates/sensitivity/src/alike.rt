@@ -1,8 +1,10 @@
 // Which two jobs may be compared: alike but for one price, and both with cost limit 65,535.
 ghost use Rattle.std.specs.Prelude.{◌≡◌};
+ghost use Rattle.record.specs.Answers.{code_of};
 ghost use Rattle.sensitivity.specs.alike.Alike.{same_but, alike_but, one_price, comparable, compare_code};
 
-use record::job_fields;
+use record::refusal::Refusal;
+use record::{job_fields, refusal};
 
 // Whether byte `i` is the same in both records, or is the one at `place`, which may differ.
 #[tactic(auto, unfolding(crate::specs::alike::Alike::same_but))]
@@ -40,13 +42,12 @@ fn comparable(old: &[u8], new: &[u8]) -> bool
         && 65535 <= job_fields::cost_limit(new)
 }
 
-// The code of the first rule broken, or 0: the old job's rules, then the new job's, then 38.
-pub fn compare_code(old: &[u8], new: &[u8]) -> u8
-    ensures { result ≡ compare_code old.now new.now }
+// Checks two jobs that are to be compared: the old job, the new one, and then that they may be.
+#[tactic(auto, using(record::proofs::Refusals::refusals), unfolding(crate::specs::alike::Alike::compare_code))]
+pub fn check_compare(old: &[u8], new: &[u8]) -> Result<(), Refusal>
+    ensures { code_of result ≡ compare_code old.now new.now }
 {
-    let alike = logic::rule(comparable(old, new), 38, 0);
-    logic::and_then(
-        record::job_code(old),
-        logic::and_then(record::job_code(new), alike),
-    )
+    record::check_job(old)?;
+    record::check_job(new)?;
+    refusal::kept(comparable(old, new), Refusal::NotComparable)
 }

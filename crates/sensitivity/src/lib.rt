@@ -8,49 +8,28 @@ pub mod difference; // the difference of two costs, with its sign
 pub mod repriced; // theorems: how far a change of one price moves the least cost (no code)
 
 ghost use Rattle.std.specs.Prelude.{◌≡◌};
-ghost use Rattle.outcomes.specs.Outcomes.{search_of, reported, searched_answer};
-ghost use Rattle.sensitivity.specs.Calls.{change_between, price_change, change_answer};
+ghost use Rattle.record.specs.Answers.{reply};
+ghost use Rattle.outcomes.specs.Outcomes.{search_of, reported};
+ghost use Rattle.sensitivity.specs.Calls.{price_change};
 
-use outcomes::Searched;
-
-// The answer: a refusal code, or the new least cost less the old.
-#[derive(Clone, Copy)]
-pub enum Change {
-    Refused(u8),
-    By(i32),
-}
+use outcomes::Reported;
+use record::refusal::Refusal;
 
 // What the search reports of a job. The circuit itself is not kept.
-fn searched(job: &[u8]) -> Searched
-    ensures { searched_answer result ≡ reported (search_of job.now 15) }
+fn searched(job: &[u8]) -> Result<Reported, Refusal>
+    ensures { reply result ≡ reported (search_of job.now 15) }
 {
     let mut answer = [0u8; 15];
     search::search(job, &mut answer)
 }
 
-// The new cost less the old, or the refusal of the first search that found nothing.
-fn change_between(old: Searched, new: Searched) -> Change
-    ensures { change_answer result ≡ change_between (searched_answer old) (searched_answer new) }
-{
-    match old {
-        Searched::Refused(code) => Change::Refused(code),
-        Searched::Found(_, before) => match new {
-            Searched::Refused(code) => Change::Refused(code),
-            Searched::Found(_, after) => Change::By(difference::cost_difference(
-                before.cost,
-                after.cost,
-            )),
-        },
-    }
-}
-
 // Compares two jobs that are alike but for one price: returns the new least cost less the old.
-pub fn price_change(old: &[u8], new: &[u8]) -> Change
-    ensures { change_answer result ≡ price_change old.now new.now }
+#[tactic(auto, unfolding(crate::specs::Calls::price_change))]
+pub fn price_change(old: &[u8], new: &[u8]) -> Result<i32, Refusal>
+    ensures { reply result ≡ price_change old.now new.now }
 {
-    let code = alike::compare_code(old, new);
-    if code != 0 {
-        return Change::Refused(code);
-    }
-    change_between(searched(old), searched(new))
+    alike::check_compare(old, new)?;
+    let before = searched(old)?;
+    let after = searched(new)?;
+    Ok(difference::cost_difference(before.measures.cost, after.measures.cost))
 }

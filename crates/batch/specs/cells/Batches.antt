@@ -3,7 +3,6 @@ use Rattle.std.specs.Prelude.{Bool, List, [], ◌∷◌, ◌++◌, ℕ, ◌*◌,
 use Rattle.logic.specs.Rules.{both, pick, rule}
 use Rattle.logic.specs.Answers.{Answer, refused, answered, answer_of}
 use Rattle.outcomes.specs.Outcomes.{Found, search_of, written}
-use Rattle.batch.specs.declared.cells.Batched.{Batched}
 use Rattle.batch.specs.cutting.Records.{records_of, count_of, all_cut}
 
 -- "Each has a 15-byte answer cell and a status byte"
@@ -47,11 +46,6 @@ answers_left jobs answers statuses =
 unfoldable pub statuses_left : List ℕ → List ℕ → List ℕ → List ℕ
 statuses_left jobs answers statuses =
     pick (eqb (batch_code jobs (length answers) (length statuses)) 0) (statuses_after (records_of jobs) statuses) statuses
-
--- the code's enum as an answer: document 02's refusal code, or the number of jobs
-abbrev pub batched_answer : Batched → Answer ℕ
-batched_answer (Batched.Refused code) = refused code
-batched_answer (Batched.Jobs count) = answered count
 
 -- the answer cell of job i, counted from 0
 abbrev pub cell_at : ℕ → List ℕ → List ℕ

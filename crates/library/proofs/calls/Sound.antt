@@ -152,3 +152,28 @@ searchable job lib room h =
       library_sound_law = q.1;
       wide = leb-true 15 room (rule_kept (leb 15 room) 13 0 (lit< tt) p.1).0;
     }
+
+-- the same for a call that goes on after these checks
+module _ (job lib c : List ℕ) (h : 0 ≡ circuit_with_code job lib c) where
+  pub passed_job : job_code job ≡ 0
+  passed_job = (suited job lib c (sym h)).job_sound_law
+
+  pub passed_library : library_sound job lib ≡ true
+  passed_library = (suited job lib c (sym h)).sound
+
+  pub passed_circuit : circuit_code c ≡ 0
+  passed_circuit = (suited job lib c (sym h)).circuit_sound_law
+
+pub ruleset passed = (passed_job, passed_library, passed_circuit)
+
+module _ (job lib : List ℕ) (room : ℕ) (h : 0 ≡ search_with_code job lib room) where
+  pub asked_job : job_code job ≡ 0
+  asked_job = (searchable job lib room (sym h)).job_sound_law
+
+  pub asked_library : library_code job lib ≡ 0
+  asked_library = (searchable job lib room (sym h)).library_sound_law
+
+  pub asked_room : 15 ≤ room
+  asked_room = (searchable job lib room (sym h)).wide
+
+pub ruleset asked = (asked_job, asked_library, asked_room)

@@ -12,7 +12,7 @@ pub solve_among-requires-clause-lawfuls : goal.solve_among-requires-clause-lawfu
 solve_among-requires-clause-lawfuls c =
     let e = c.entries.ensures ∙ c.stock-stock.ensures in rw e (lawful_entries c.args.job.now c.args.library.now c.requires.library_value)
 
-pub returns-clause-result_value : goal.returns-clause-result_value
-returns-clause-result_value c =
+pub returns : goal.returns
+returns c =
     let e = c.entries.ensures ∙ c.stock-stock.ensures in
-    c.solve_among.ensures.result_value (set_in c.args.library.now) (rw e (tabled c.args.job.now c.args.library.now c.requires.library_value))
+    c.solve_among.ensures (set_in c.args.library.now) (rw e (tabled c.args.job.now c.args.library.now c.requires.library_value))

@@ -1,55 +1,68 @@
--- A rule broken, or the first good choice, told with its measures.
+-- A rule broken, nothing found, or the first good choice, told with its measures.
 use mathlib.Core.Path.{◌≡◌, sym, ap, ◌∙◌}
+use borrow.Author.Rules.{rules}
 use lib.ListN.{length}
-use Rattle.logic.specs.Answers.{Answer}
-use Rattle.outcomes.specs.Outcomes.{Found, search_over, reported, written}
-use Rattle.outcomes.proofs.Answer.{by_code, told_is}
+use Rattle.logic.specs.Answers.{Answer, refused}
+use Rattle.problem.specs.order.View.{view, choice}
+use Rattle.circuit.specs.measures.Measures.{measures_of}
+use Rattle.library.specs.entries.Library.{price_in, duration_in}
+use Rattle.record.specs.Answers.{number}
 use Rattle.library.specs.calls.Calls.{set_in, search_with_code, search_with}
-use Rattle.library.proofs.calls.Sound.{Searchable, searchable}
+use Rattle.outcomes.specs.Outcomes.{Found, reported, written}
+use Rattle.outcomes.specs.Inner.{told_of}
+use Rattle.library.proofs.calls.Sound.{searchable}
+use Rattle.outcomes.proofs.Answer.{refused_is, none_is, told_is}
 use Rattle.library.proofs.search_with.Goals as goal
-use Rattle.library.proofs.search_with.Goals.{Else-code-ne0}
+use Rattle.library.proofs.search_with.Goals.{In_err-check_search_with, In_ok-check_search_with, In_err-best, After-tell}
 
--- past the checks
-kept : (c : Else-code-ne0)
-    → (search_with_code c.args.job.now c.args.library.now (length c.args.answer.now) ≡ 0)
-kept c = sym c.search_with_code-code.ensures ∙ c.if-code-ne0.false
+-- what the checks let through
+kept : (c : In_ok-check_search_with) → search_with_code c.args.job.now c.args.library.now (length c.args.answer.now) ≡ 0
+kept c = sym c.in_ok-check_search_with.ensures
 
-sound : (c : Else-code-ne0)
-    → (Searchable c.args.job.now c.args.library.now (length c.args.answer.now))
-sound c =
-    searchable c.args.job.now c.args.library.now (length c.args.answer.now) (kept c)
-
-pub returns-then-code-ne0-clause-result_value : goal.returns-then-code-ne0-clause-result_value
+-- what the search answers, on each way out
+refusal : (c : In_err-check_search_with) → search_with c.args.job.now c.args.library.now (length c.args.answer.now) ≡ refused (number c.in_err-check_search_with.field-0.0)
 unfolding search_with
-returns-then-code-ne0-clause-result_value c =
-    let e = by_code (set_in c.args.library.now) c.args.job.now c.search_with_code-code.result c.if-code-ne0.true in
-    let r = ap (search_over (set_in c.args.library.now) c.args.job.now) (sym c.search_with_code-code.ensures) ∙ e in sym (ap reported r)
+refusal c = refused_is (set_in c.args.library.now) c.args.job.now _ c.in_err-check_search_with.field-0.0 c.in_err-check_search_with.ensures
 
-pub returns-then-code-ne0-clause-answer_after : goal.returns-then-code-ne0-clause-answer_after
+nothing : (c : In_err-best) → search_with c.args.job.now c.args.library.now (length c.args.answer.now) ≡ refused (number c.in_err-best.field-0.0)
 unfolding search_with
-returns-then-code-ne0-clause-answer_after c =
-    let e = by_code (set_in c.args.library.now) c.args.job.now c.search_with_code-code.result c.if-code-ne0.true in
-    let r = ap (search_over (set_in c.args.library.now) c.args.job.now) (sym c.search_with_code-code.ensures) ∙ e in sym (ap (λ (o : Answer Found). written o c.args.answer.now) r)
+nothing c =
+    none_is (set_in c.args.library.now) c.args.job.now _ (sym c.in_ok-check_search_with.ensures) (sym (ap view c.in_err-best.ensures.err.0) ∙ c.first_good.ensures)
+    ∙ sym (ap (λ e. refused (number e)) c.in_err-best.ensures.err.1)
 
-pub first_good-best-requires-clause-job_value : goal.first_good-best-requires-clause-job_value
-first_good-best-requires-clause-job_value c = (sound (goal.at.first_good-best-requires-clause-job_value c).Else-code-ne0).job_sound_law
+found : (c : After-tell) → told_of c.args.job.now c.measures_of-measures.result (choice c.in_ok-best.best) ≡ search_with c.args.job.now c.args.library.now (length c.args.answer.now)
+unfolding search_with
+found c =
+    told_is (set_in c.args.library.now) c.args.job.now _ (sym c.in_ok-check_search_with.ensures) c.in_ok-best.best (sym (ap view c.in_ok-best.ensures.ok) ∙ c.first_good.ensures)
+    c.measures_of-measures.result (c.measures_of-measures.ensures ∙ ap (measures_of (price_in c.args.library.now) (duration_in c.args.library.now)) c.gates.ensures)
 
-pub first_good-best-requires-clause-library_value : goal.first_good-best-requires-clause-library_value
-first_good-best-requires-clause-library_value c = (sound (goal.at.first_good-best-requires-clause-library_value c).Else-code-ne0).library_sound_law
+pub first_good-requires-clause-job_value : goal.first_good-requires-clause-job_value
+first_good-requires-clause-job_value c = (searchable c.args.job.now c.args.library.now (length c.args.answer.now) (kept c)).job_sound_law
 
-pub tell-requires-clause-in_bounds : goal.tell-requires-clause-in_bounds
-tell-requires-clause-in_bounds c = (sound (goal.at.tell-requires-clause-in_bounds c).Else-code-ne0).wide
+pub first_good-requires-clause-library_value : goal.first_good-requires-clause-library_value
+first_good-requires-clause-library_value c = (searchable c.args.job.now c.args.library.now (length c.args.answer.now) (kept c)).library_sound_law
+
+pub tell-requires : goal.tell-requires
+tell-requires c =
+    (searchable c.args.job.now c.args.library.now (length c.args.answer.now) (kept (goal.at.tell-requires c).In_ok-check_search_with)).wide
+
+pub returns-in_err-check_search_with-clause-result_value : goal.returns-in_err-check_search_with-clause-result_value
+returns-in_err-check_search_with-clause-result_value c = rw (ap reported (refusal (goal.at.returns-in_err-check_search_with-clause-result_value c).In_err-check_search_with)) (search rules)
+
+pub returns-in_err-check_search_with-clause-answer_after : goal.returns-in_err-check_search_with-clause-answer_after
+returns-in_err-check_search_with-clause-answer_after c =
+    sym (ap (λ (o : Answer Found). written o c.args.answer.now) (refusal (goal.at.returns-in_err-check_search_with-clause-answer_after c).In_err-check_search_with))
+
+pub returns-in_err-best-clause-result_value : goal.returns-in_err-best-clause-result_value
+returns-in_err-best-clause-result_value c = rw (ap reported (nothing (goal.at.returns-in_err-best-clause-result_value c).In_err-best)) (search rules)
+
+pub returns-in_err-best-clause-answer_after : goal.returns-in_err-best-clause-answer_after
+returns-in_err-best-clause-answer_after c =
+    sym (ap (λ (o : Answer Found). written o c.args.answer.now) (nothing (goal.at.returns-in_err-best-clause-answer_after c).In_err-best))
 
 pub returns-clause-result_value : goal.returns-clause-result_value
-unfolding search_with
-returns-clause-result_value c =
-    let e
-    = told_is (set_in c.args.library.now) c.args.job.now (search_with_code c.args.job.now c.args.library.now (length c.args.answer.now)) (kept (goal.at.returns-clause-result_value c).Else-code-ne0) c.first_good-best.result
-    c.first_good-best.ensures.result_value c.measures_of-measures.result c.measures_of-measures.ensures in c.tell.ensures.result_value ∙ ap reported e
+returns-clause-result_value c = c.tell.ensures.result_value ∙ ap reported (found (goal.at.returns-clause-result_value c).After-tell)
 
 pub returns-clause-answer_after : goal.returns-clause-answer_after
-unfolding search_with
 returns-clause-answer_after c =
-    let e
-    = told_is (set_in c.args.library.now) c.args.job.now (search_with_code c.args.job.now c.args.library.now (length c.args.answer.now)) (kept (goal.at.returns-clause-answer_after c).Else-code-ne0) c.first_good-best.result
-    c.first_good-best.ensures.result_value c.measures_of-measures.result c.measures_of-measures.ensures in c.tell.ensures.answer_after ∙ ap (λ (o : Answer Found). written o c.args.answer.now) e
+    c.tell.ensures.answer_after ∙ ap (λ (o : Answer Found). written o c.args.answer.now) (found (goal.at.returns-clause-answer_after c).After-tell)

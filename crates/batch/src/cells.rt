@@ -9,11 +9,14 @@ use record::refusal;
 use record::refusal::Refusal;
 
 // Checks a batch, given the lengths of the two buffers: all of it is job records, and there is room for each.
-#[tactic(auto, using(crate::proofs::cells::Codes::roomy), unfolding(crate::specs::cells::Batches::batch_code))]
+#[tactic(auto, unfolding(crate::specs::cells::Batches::batch_code, crate::specs::cells::Batches::room_ok, crate::specs::cutting::Records::all_cut))]
 pub fn check_batch(jobs: &[u8], answers: usize, statuses: usize) -> Result<(), Refusal>
     ensures { code_of result ≡ batch_code jobs.now answers statuses }
 {
     let cut = cutting::cut_off(jobs);
     refusal::kept(cut.end == jobs.len(), Refusal::BatchForm)?;
-    refusal::kept(15 * cut.count <= answers && cut.count <= statuses, Refusal::BatchRoom)
+    refusal::kept(
+        15 * cut.count <= answers && cut.count <= statuses,
+        Refusal::BatchRoom,
+    )
 }

@@ -3,6 +3,7 @@ ghost use Rattle.std.specs.Prelude.{◌≡◌, true, ◌<◌, length};
 ghost use Rattle.bloom.specs.bits.Places.{key_of, lit_at, Grown};
 
 // The place of a hash in a filter of `size` bits: one number for the word and its two bits.
+#[tactic(auto, unfolding(crate::specs::bits::Places::key_of))]
 pub fn key(size: u32, hash: usize) -> usize
     ensures { result ≡ key_of size hash }
 {
@@ -11,6 +12,7 @@ pub fn key(size: u32, hash: usize) -> usize
 
 // Whether both bits of a place are set. A place past the end counts as set, so no bits at all rule nothing out. Two bits make false
 // positives rarer than one, and since both are in one word, one read gets them. They are joined without a branch, for speed.
+#[tactic(auto, unfolding(crate::specs::bits::Places::lit_at))]
 pub fn lit(bits: &[u64], k: usize) -> bool
     ensures { result ≡ lit_at bits.now k }
 {

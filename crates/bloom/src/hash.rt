@@ -13,10 +13,11 @@ pub struct Reach {
 }
 
 // What a column adds to the hash, by its wire's factor.
+#[tactic(auto, unfolding(crate::specs::hash::Reach::share_of))]
 fn share(factor: u32, column: u16) -> u32
     ensures { result ≡ share_of factor column }
 {
-    let x = column as usize * factor as usize;
+    let x = usize::from(column) * factor as usize;
     ((x ^ (x >> 23)) % 4294967296 * 2654435761 % 4294967296) as u32
 }
 
@@ -24,15 +25,7 @@ fn share(factor: u32, column: u16) -> u32
 pub fn shares(reach: Reach, columns: [u16; 5]) -> [u32; 5]
     ensures { result ≡ shares_of reach columns }
 {
-    let factors = reach.factors;
-    let rows = reach.rows;
-    [
-        share(factors[0], columns[0] & rows),
-        share(factors[1], columns[1] & rows),
-        share(factors[2], columns[2] & rows),
-        share(factors[3], columns[3] & rows),
-        share(factors[4], columns[4] & rows),
-    ]
+    std::array::from_fn(|w| share(reach.factors[w], columns[w] & reach.rows))
 }
 
 // Entry `w` of five, or 0 past the end.

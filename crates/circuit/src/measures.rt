@@ -5,6 +5,7 @@ ghost use Rattle.circuit.specs.measures.Measures.{measures_with, measures_of};
 use crate::{Rate, timing};
 
 // The number of gates, the cost and the depth, and the ready time of each of five wires, which is 0 for a wire that the circuit lacks.
+// Five fields and no array: docs/API.md promises their names.
 #[derive(Clone, Copy)]
 pub struct Measures {
     pub gates: u8,

@@ -54,8 +54,9 @@ pub fn ready_times<R: Rate>(gates: &[u8], durations: R) -> [u16; 5]
     ensures { result ≡ ready_times (R.rate durations) gates.now }
 {
     let mut times = [0u16; 5];
+    // not a fold: `hold` asks for small times, which the times so far are and a closure's argument need not be
     for &b in gates {
-        let next = hold(gate::decode(b), durations.weight(b), times);
+        let next = hold(gate::decode(b), durations.weight(b), times); // assigned in two steps: one gets no generated proof
         times = next;
     }
     times

@@ -14,19 +14,12 @@ pub struct Wanted {
     pub value: [u16; 4],
 }
 
-// Entry `i` of four, or 0 past the end.
-fn output(cells: [u16; 4], i: usize) -> u16
-    ensures { result ≡ get_or cells i 0 }
-{
-    if i < 4 { cells[i] } else { 0 }
-}
-
 // The rows in which a column differs from what is wanted of output `j`.
 #[tactic(auto, unfolding(crate::specs::Wanted::misses))]
 pub fn misses(t: Wanted, column: u16, j: usize) -> u16
     ensures { result ≡ misses t column j }
 {
-    (column ^ output(t.value, j)) & output(t.care, j)
+    (column ^ logic::cell(t.value, j)) & logic::cell(t.care, j)
 }
 
 // Whether output `j` has every wanted bit on the wire where layout `p` puts it.

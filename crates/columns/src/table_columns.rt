@@ -22,6 +22,7 @@ fn column(care: bool, j: usize, rows: &[u8]) -> u16
     ensures { result ≡ column_of (row_bit care j) rows.now }
 {
     let mut bits = 0;
+    // not a fold: the bits so far fit 16 bits, and a closure's argument need not
     for x in (0..rows.len()).rev() {
         bits = row_bit(care, j, rows[x]) + 2 * bits;
     }

@@ -33,7 +33,8 @@ const LARGER5: [u8; 75] = [
     0x84, 0x85, 0x86, 0x87, 0x88, 0x89, 0x8A, 0x8B, 0x8C, 0x8D, 0x8E,
 ];
 
-// The table for at most `k` controls on `w` wires. On three wires no gate can have three, so one table serves there.
+// The table for at most `k` controls on `w` wires. On three wires no gate can have three, so one table serves there. Two plain numbers
+// with a clause, and no type of such pairs, since the public calls below have taken them so.
 fn table(k: usize, w: usize) -> &'static [u8]
     requires { ((2 ≤ k) × (k ≤ 3)) × ((3 ≤ w) × (w ≤ 5)) }
     ensures { result.now ≡ gates_for k w }

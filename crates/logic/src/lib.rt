@@ -62,15 +62,15 @@ pub fn wide(x: u8) -> usize
     x as usize
 }
 
-// Cell `i` of five, or 0 past the end.
-pub fn cell(cells: [u16; 5], i: usize) -> u16
-    ensures { result ≡ get_or cells i 0 }
+// Cell `i`, or 0 past the end.
+pub fn cell<const N: usize>(cells: [u16; N], i: usize) -> u16
+    ensures { result ≡ get_or cells.entry i 0 }
 {
-    if i < 5 { cells[i] } else { 0 }
+    if i < N { cells[i] } else { 0 }
 }
 
 // `x` where `first` is true, else `y`.
-pub fn picked(first: bool, x: u16, y: u16) -> u16
+pub fn picked<T: Copy>(first: bool, x: T, y: T) -> T
     ensures { result ≡ pick first x y }
 {
     if first { x } else { y }

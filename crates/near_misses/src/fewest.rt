@@ -1,5 +1,6 @@
 // A lower bound on the wanted bits that a list misses once it goes on by at most so many gates, from the columns of today.
-ghost use Rattle.std.specs.Prelude.{◌≡◌, [], ◌∷◌, ◌+◌, ◌≤◌, ◌<◌, eqb, get_or};
+ghost use Rattle.std.specs.Prelude.{◌≡◌, ◌+◌, ◌*◌, ◌≤◌, ◌<◌, eqb, get_or, length};
+ghost use Rattle.std.specs.List.{AllWithin};
 ghost use Rattle.logic.specs.Rules.{pick};
 ghost use Rattle.near_misses.specs.misses.Columns.{missed_by, least_of, least_missed, least_left, missed_at_least};
 
@@ -22,21 +23,13 @@ fn least_free(t: Wanted, columns: [u16; 5], n: usize, j: usize) -> usize
     ensures value { result ≡ least_of n (λ w. missed_by t (get_or columns w 0) j) }
     ensures upper_bound { result ≤ 16 }
 {
-    let low = logic::lesser(
-        misses::missed_by(t, columns[0], j),
-        misses::missed_by(t, columns[1], j),
-    );
-    logic::lesser(
-        low,
-        logic::lesser(
-            misses::missed_by(t, columns[2], j),
-            on_last(t, columns, n, j),
-        ),
-    )
+    let low = misses::missed_by(t, columns[0], j).min(misses::missed_by(t, columns[1], j));
+    low.min(misses::missed_by(t, columns[2], j).min(on_last(t, columns, n, j)))
 }
 
 // How many wanted bits of output `j` are missed at least, on the wires that allowed layouts give it: any data wire where layouts are free,
 // else wire `j`.
+#[tactic(auto, unfolding(crate::specs::misses::Columns::least_missed))]
 fn least_missed(t: Wanted, columns: [u16; 5], n: usize, free: usize, j: usize) -> usize
     ensures value { result ≡ least_missed t columns n free j }
     ensures upper_bound { result ≤ 16 }
@@ -60,49 +53,23 @@ fn least_last(t: Wanted, columns: [u16; 5], n: usize, free: usize) -> usize
     }
 }
 
-// The least sum of some numbers once up to `r` of them are left out: here of one number, then of two, three and four.
-fn left_of_one(a: usize, r: usize) -> usize
-    ensures value { result ≡ least_left (a ∷ []) r }
-    ensures upper_bound { result ≤ a }
+// The least sum of some numbers once up to `r` of them are left out.
+fn least_left(missed: &[usize], r: usize) -> usize
+    requires few { length missed.now ≤ 4 }
+    requires each { AllWithin (λ m. m ≤ 16) missed.now 0 (length missed.now) }
+    ensures value { result ≡ least_left missed.now r }
+    ensures upper_bound { result ≤ 16 * length missed.now }
 {
-    if r == 0 { a } else { 0 }
-}
-
-fn left_of_two(a: usize, b: usize, r: usize) -> usize
-    requires { (a ≤ 16) × (b ≤ 16) }
-    ensures value { result ≡ least_left (a ∷ b ∷ []) r }
-    ensures upper_bound { result ≤ 32 }
-{
-    let all = a + left_of_one(b, r);
-    if r == 0 {
-        all
-    } else {
-        logic::lesser(all, left_of_one(b, r - 1))
-    }
-}
-
-fn left_of_three(a: usize, b: usize, c: usize, r: usize) -> usize
-    requires { (a ≤ 16) × ((b ≤ 16) × (c ≤ 16)) }
-    ensures value { result ≡ least_left (a ∷ b ∷ c ∷ []) r }
-    ensures upper_bound { result ≤ 48 }
-{
-    let all = a + left_of_two(b, c, r);
-    if r == 0 {
-        all
-    } else {
-        logic::lesser(all, left_of_two(b, c, r - 1))
-    }
-}
-
-fn left_of_four(a: usize, b: usize, c: usize, d: usize, r: usize) -> usize
-    requires { (a ≤ 16) × ((b ≤ 16) × ((c ≤ 16) × (d ≤ 16))) }
-    ensures { result ≡ least_left (a ∷ b ∷ c ∷ d ∷ []) r }
-{
-    let all = a + left_of_three(b, c, d, r);
-    if r == 0 {
-        all
-    } else {
-        logic::lesser(all, left_of_three(b, c, d, r - 1))
+    match missed {
+        [] => 0,
+        [first, rest @ ..] => {
+            let all = *first + least_left(rest, r);
+            if r == 0 {
+                all
+            } else {
+                all.min(least_left(rest, r - 1))
+            }
+        }
     }
 }
 
@@ -114,11 +81,11 @@ pub fn missed_at_least(t: Wanted, columns: [u16; 5], n: usize, free: usize, r: u
     if 4 <= r {
         return 0;
     }
-    left_of_four(
+    let missed = [
         least_last(t, columns, n, free),
         least_missed(t, columns, n, free, 2),
         least_missed(t, columns, n, free, 1),
         least_missed(t, columns, n, free, 0),
-        r,
-    )
+    ];
+    least_left(&missed, r)
 }

@@ -4,22 +4,21 @@ ghost use Rattle.gate.specs.Gates.{target_of};
 ghost use Rattle.normal_forms.specs.masks.Words.{marked};
 
 use crate::masks::Masks;
-use crate::words;
 
 // Whether gate `g` is marked. Its word is picked by comparisons and not by an index, so that the compiler can keep the words in registers.
 pub fn marked(marks: Masks, g: u8) -> bool
     requires { target_of g < 5 }
     ensures { result ≡ marked marks g }
 {
-    let t = logic::wide(g) / 32;
+    let t = usize::from(g) / 32;
     let sleep = marks.sleep;
     let cancel = marks.cancel;
-    let last = words::picked(t == 3, sleep[3] | cancel[3], sleep[4] | cancel[4]);
-    let later = words::picked(t == 2, sleep[2] | cancel[2], last);
-    let word = words::picked(
+    let last = logic::picked(t == 3, sleep[3] | cancel[3], sleep[4] | cancel[4]);
+    let later = logic::picked(t == 2, sleep[2] | cancel[2], last);
+    let word = logic::picked(
         t == 0,
         sleep[0] | cancel[0],
-        words::picked(t == 1, sleep[1] | cancel[1], later),
+        logic::picked(t == 1, sleep[1] | cancel[1], later),
     );
     (word >> (g % 32)) % 2 == 1
 }

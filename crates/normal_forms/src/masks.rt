@@ -19,8 +19,8 @@ pub fn start() -> Masks
     ensures { result ≡ no_masks }
 {
     Masks {
-        sleep: [0u32; 5],
-        cancel: [0u32; 5],
+        sleep: [0; 5],
+        cancel: [0; 5],
     }
 }
 
@@ -29,27 +29,13 @@ pub fn step(g: u8, marks: Masks) -> Masks
     requires { target_of g < 5 }
     ensures { result ≡ stepped g marks }
 {
-    let t = logic::wide(g) / 32;
-    let m = logic::wide(g) % 32;
+    let t = usize::from(g) / 32;
+    let m = usize::from(g) % 32;
     let wires = m | (1 << t);
     let apart = words::clear(wires);
     let free = words::clear(1 << t);
-    let sleep = marks.sleep;
-    let cancel = marks.cancel;
     Masks {
-        sleep: [
-            words::sleep_word(wires, apart, t, 0, sleep[0]),
-            words::sleep_word(wires, apart, t, 1, sleep[1]),
-            words::sleep_word(wires, apart, t, 2, sleep[2]),
-            words::sleep_word(wires, apart, t, 3, sleep[3]),
-            words::sleep_word(wires, apart, t, 4, sleep[4]),
-        ],
-        cancel: [
-            words::cancel_word(m, free, t, 0, cancel[0]),
-            words::cancel_word(m, free, t, 1, cancel[1]),
-            words::cancel_word(m, free, t, 2, cancel[2]),
-            words::cancel_word(m, free, t, 3, cancel[3]),
-            words::cancel_word(m, free, t, 4, cancel[4]),
-        ],
+        sleep: std::array::from_fn(|u| words::sleep_word(wires, apart, t, u, marks.sleep[u])),
+        cancel: std::array::from_fn(|u| words::cancel_word(m, free, t, u, marks.cancel[u])),
     }
 }

@@ -17,14 +17,6 @@ ghost use Rattle.outputs.specs.Owed.{missed, owed};
 
 use columns::Wanted;
 
-// 1 for true, 0 for false.
-pub fn one(b: bool) -> u16
-    ensures value { result ≡ bit b }
-    ensures upper_bound { result ≤ 1 }
-{
-    if b { 1 } else { 0 }
-}
-
 // Whether a column has every wanted bit of output `j`.
 pub fn fits(t: Wanted, column: u16, j: usize) -> bool
     ensures { result ≡ fitting t column j }
@@ -50,7 +42,7 @@ fn misses_one(t: Wanted, column: u16, j: usize) -> u16
     ensures by_index { (cs : List ℕ) (w : ℕ) → column ≡ get_or cs w 0 → result ≡ bit (missed t cs w j) }
     ensures upper_bound { result ≤ 1 }
 {
-    one(columns::misses(t, column, j) != 0)
+    u16::from(!fits(t, column, j))
 }
 
 // 1 if every data wire misses output `j`, else 0.
@@ -69,7 +61,7 @@ fn sum(n: usize, a: u16, b: u16, c: u16, d: u16) -> usize
     requires { (a ≤ 1) × ((b ≤ 1) × ((c ≤ 1) × (d ≤ 1))) }
     ensures { result ≡ pick (eqb n 4) d 0 + (c + (b + a)) }
 {
-    (logic::picked(n == 4, d, 0) + (c + (b + a))) as usize
+    usize::from(logic::picked(n == 4, d, 0) + (c + (b + a)))
 }
 
 // How many outputs are missed on every wire that an allowed layout may give them.

@@ -8,6 +8,7 @@ ghost use Rattle.outputs.specs.Owed.{lost};
 ghost use Rattle.outputs.specs.plan.Plan.{plan_of};
 ghost use Rattle.outputs.specs.plan.Inner.{places_of, spread_of, spots_of, spoilt_spots, packed};
 
+use crate::{fits, spilt};
 use columns::Wanted;
 
 // A hexadecimal digit for each target: in `sets` the outputs that are alone for it, a bit each; in `sizes` how many they are, the ancilla
@@ -20,16 +21,19 @@ pub struct Plan {
 }
 
 // The data wires that do not miss output `j`, a bit each.
+#[tactic(auto, unfolding(crate::specs::plan::Inner::places_of))]
 fn places(t: Wanted, columns: [u16; 5], n: usize, j: usize) -> u16
     ensures { result ≡ places_of t columns n j }
 {
-    let low = crate::one(crate::fits(t, columns[0], j))
-        + 2 * crate::one(crate::fits(t, columns[1], j));
-    let last = logic::both(n == 4, crate::fits(t, columns[3], j));
-    low + 4 * crate::one(crate::fits(t, columns[2], j)) + 8 * crate::one(last)
+    let last = (n == 4) & fits(t, columns[3], j);
+    u16::from(fits(t, columns[0], j))
+        + 2 * u16::from(fits(t, columns[1], j))
+        + 4 * u16::from(fits(t, columns[2], j))
+        + 8 * u16::from(last)
 }
 
 // A digit for each target: 1 if no wire but the target is in the set.
+#[tactic(auto, unfolding(crate::specs::plan::Inner::spread_of))]
 fn spread(set: u16) -> u32
     ensures value { result ≡ spread_of set }
     ensures upper_bound { result ≤ 69905 }
@@ -51,9 +55,10 @@ fn free_spots(t: Wanted, columns: [u16; 5], n: usize, j: usize) -> u32
     ensures upper_bound { result ≤ 69905 }
 {
     if n <= j {
-        return 0;
+        0
+    } else {
+        spread(places(t, columns, n, j))
     }
-    spread(places(t, columns, n, j))
 }
 
 // With the fixed layout, a digit for each target: 1 if output `j` is alone for it. If wire `j` misses the output, that is so for every
@@ -64,9 +69,8 @@ fn fixed_spots(t: Wanted, columns: [u16; 5], n: usize, j: usize) -> u32
     ensures upper_bound { result ≤ 69905 }
 {
     if n <= j {
-        return 0;
-    }
-    if crate::fits(t, columns[j], j) {
+        0
+    } else if fits(t, columns[j], j) {
         1 << (4 * j)
     } else {
         0x11111
@@ -104,9 +108,9 @@ pub fn plan_of(t: Wanted, columns: [u16; 5], n: usize, free: usize) -> Plan
     ensures value { result ≡ plan_of t columns n free }
     ensures lost_value { result.lost ≡ lost t columns n free }
 {
-    let clean = crate::spilt(n, columns) == 0;
+    let clean = spilt(n, columns) == 0;
     let spoilt = spoilt_spots(n, clean);
-    let unclean = crate::one(!clean) as u32;
+    let unclean = u32::from(!clean);
     if free == 1 {
         pack(
             free_spots(t, columns, n, 0),

@@ -13,8 +13,8 @@ pub fn next_column(table: &[u16], g: u8) -> u16
     ensures { (k : ℕ) (t : Wanted) (cs : List ℕ) → Controls k → lawful k 5 g ≡ true → length cs ≡ 5
         → table.now ≡ table_of k t cs → result ≡ get_or (column_step (gate_of g) cs) (target_of g) 0 }
 {
-    let w = (g / 32) as usize;
-    table[1 << w] ^ table[(g % 32) as usize]
+    let w = usize::from(g / 32);
+    table[1 << w] ^ table[usize::from(g % 32)]
 }
 
 // All columns after a gate.
@@ -24,7 +24,7 @@ pub fn step(table: &[u16], columns: [u16; 5], g: u8) -> [u16; 5]
     ensures { (k : ℕ) (t : Wanted) → Controls k → lawful k 5 g ≡ true → table.now ≡ table_of k t columns
         → result ≡ column_step (gate_of g) columns }
 {
-    let t = (g / 32) as usize;
+    let t = usize::from(g / 32);
     logic::with_cell(columns, t, next_column(table, g))
 }
 
@@ -34,5 +34,5 @@ pub fn idle(table: &[u16], g: u8) -> bool
     ensures { (k : ℕ) (t : Wanted) (cs : List ℕ) → Controls k → lawful k 5 g ≡ true → table.now ≡ table_of k t cs
         → result ≡ eqb (firing (gate_of g).kind cs) 0 }
 {
-    table[(g % 32) as usize] == 0
+    table[usize::from(g % 32)] == 0
 }

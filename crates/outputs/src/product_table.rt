@@ -15,7 +15,7 @@ fn wider(controls: usize, columns: [u16; 5]) -> [u16; 16]
     if controls == 3 {
         products::triples(columns)
     } else {
-        [0u16; 16]
+        [0; 16]
     }
 }
 

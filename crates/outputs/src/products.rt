@@ -6,11 +6,7 @@ ghost use Rattle.outputs.specs.products.Products.{products_of};
 pub fn products(columns: [u16; 5]) -> [u16; 16]
     ensures { result ≡ products_of 3 false columns }
 {
-    let a = columns[0];
-    let b = columns[1];
-    let c = columns[2];
-    let d = columns[3];
-    let e = columns[4];
+    let [a, b, c, d, e] = columns;
     [
         65535,
         a,
@@ -35,11 +31,7 @@ pub fn products(columns: [u16; 5]) -> [u16; 16]
 pub fn triples(columns: [u16; 5]) -> [u16; 16]
     ensures { result ≡ products_of 3 true columns }
 {
-    let a = columns[0];
-    let b = columns[1];
-    let c = columns[2];
-    let d = columns[3];
-    let e = columns[4];
+    let [a, b, c, d, e] = columns;
     [
         a & b & c,
         a & b & d,

@@ -13,6 +13,7 @@ use crate::product_step;
 use columns::Wanted;
 
 // Whether a column has every wanted bit of output `j`, read from the product table.
+#[tactic(auto, unfolding(crate::specs::worth::Inner::has_output))]
 fn has_output(table: &[u16], column: u16, j: usize) -> bool
     requires table_len { length table.now ≡ 40 }
     requires j_bound { j < 4 }
@@ -26,29 +27,19 @@ fn has_one(table: &[u16], column: u16, set: u32) -> bool
     requires { length table.now ≡ 40 }
     ensures { result ≡ has_one table.now column set }
 {
-    let low = logic::either(
-        logic::both(set / 2 % 2 == 1, has_output(table, column, 1)),
-        logic::both(set % 2 == 1, has_output(table, column, 0)),
-    );
-    logic::either(
-        logic::both(set / 8 % 2 == 1, has_output(table, column, 3)),
-        logic::either(
-            logic::both(set / 4 % 2 == 1, has_output(table, column, 2)),
-            low,
-        ),
-    )
+    (0..4).any(|j| (set >> j) % 2 == 1 && has_output(table, column, j))
 }
 
 // Whether the new column of the target `w` mends something: it has an output that all other wires miss, or `w` is the ancilla and it is 0.
+#[tactic(auto, unfolding(crate::specs::worth::Inner::mends_by))]
 fn mends(table: &[u16], set: u32, n: usize, free: usize, w: usize, column: u16) -> bool
     requires table_len { length table.now ≡ 40 }
     requires width { Width n }
     ensures { result ≡ mends_by table.now set n free w column }
 {
     if n <= w {
-        return logic::both(n == w, columns::dirt(n, column) == 0);
-    }
-    if free == 1 {
+        n == w && columns::dirt(n, column) == 0
+    } else if free == 1 {
         has_one(table, column, set)
     } else {
         has_output(table, column, w)
@@ -64,7 +55,7 @@ pub fn worth(table: &[u16], plan: Plan, n: usize, free: usize, g: u8, most: usiz
     ensures { (k : ℕ) (t : Wanted) (cs : List ℕ) → Controls k → lawful k 5 g ≡ true → length cs ≡ 5
         → table.now ≡ table_of k t cs → plan ≡ plan_of t cs n free → result ≡ worth t cs n free g most }
 {
-    let w = (g / 32) as usize;
+    let w = usize::from(g / 32);
     let size = ((plan.sizes >> (4 * w)) % 16) as usize;
     if size != most {
         return size < most;

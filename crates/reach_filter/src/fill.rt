@@ -28,6 +28,7 @@ fn firing(columns: [u16; 5], kind: Kind) -> u16
 }
 
 // All columns after a gate.
+#[tactic(auto, unfolding(gate::specs::Inner::column_step))]
 fn step(columns: [u16; 5], g: u8) -> [u16; 5]
     ensures { result ≡ column_step (gate_of g) columns }
 {

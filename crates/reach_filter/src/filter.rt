@@ -12,6 +12,7 @@ use bounds::span;
 use columns::Wanted;
 
 // The rows of the table that want every output.
+#[tactic(auto, unfolding(crate::specs::fill::Sieve::rows_of))]
 fn rows_of(t: Wanted, n: usize) -> u16
     ensures { result ≡ rows_of t n }
 {

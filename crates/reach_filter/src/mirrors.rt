@@ -7,6 +7,7 @@ ghost use Rattle.table.specs.layouts.Layouts.{Width};
 ghost use Rattle.reach_filter.specs.mirrors.Mirrors.{wire_at, same_control, mirrors};
 
 // The wire that layout `p` has in place of wire `w` of the plain layout; a wire without an output keeps its number.
+#[tactic(auto, unfolding(crate::specs::mirrors::Mirrors::wire_at))]
 pub fn wire_at(n: usize, p: u8, w: usize) -> usize
     requires { Width n × (w < 5) }
     ensures value { result ≡ wire_at n p w }

@@ -32,19 +32,16 @@ fn hit(i: usize, p: u16, l: Lack) -> u16
     requires { i < 16 }
     ensures { result ≡ bit (hit_bit i p l) }
 {
-    outputs::one((l.allowed >> i) % 2 == 1) & outputs::one(p & l.care == l.rows)
+    u16::from((l.allowed >> i) % 2 == 1) & u16::from(p & l.care == l.rows)
 }
 
 // 1 if some product is what one of four outputs lacks, else 0. The loop has no early exit, so that all products are compared at once.
 pub fn hits(ps: [u16; 16], a: Lack, b: Lack, c: Lack, d: Lack) -> u16
     ensures { result ≡ bit (hits_of ps a b c d) }
 {
-    let mut any: u16 = 0;
-    let mut i = 0;
-    while i < 16 {
-        let p = ps[i];
+    let mut any = 0;
+    for (i, &p) in ps.iter().enumerate() {
         any = (hit(i, p, d) | (hit(i, p, c) | (hit(i, p, b) | hit(i, p, a)))) | any;
-        i += 1;
     }
     any
 }
@@ -61,6 +58,7 @@ pub fn lack_of(allowed: u16, care: u16, rows: u16) -> Lack
 }
 
 // 1 if some product mends an output on wire `w`, else 0.
+#[tactic(auto, unfolding(crate::specs::matches::Inner::wire_hits))]
 pub fn wire_hits(wide: bool, t: Wanted, columns: [u16; 5], ps: [u16; 16], n: usize, w: usize) -> u16
     requires { w < 4 }
     ensures { result ≡ bit (wire_hits wide ps t columns n w) }

@@ -72,13 +72,8 @@ pub fn cleanable(n: usize, columns: [u16; 5], spilt: u16) -> bool
     if spilt == 0 {
         return false;
     }
-    one_hit(
-        false,
-        products::products(columns),
-        n,
-        columns::all_rows(n),
-        spilt,
-    ) == 1
+    let ps = products::products(columns);
+    one_hit(false, ps, n, columns::all_rows(n), spilt) == 1
 }
 
 // 1 if some product of three columns mends an output on wire `w`, or cleans the ancilla if that is `w`; else 0. The columns come one by
@@ -101,19 +96,13 @@ fn wide_hits(
     let columns = [a, b, c, d, e];
     let ps = products::triples(columns);
     if n == w {
-        return one_hit(
-            true,
-            ps,
-            n,
-            columns::all_rows(n),
-            columns::dirt(n, columns[n]),
-        );
+        let spilt = columns::dirt(n, columns[n]);
+        one_hit(true, ps, n, columns::all_rows(n), spilt)
+    } else if free == 1 {
+        matches::wire_hits(true, t, columns, ps, n, w)
+    } else {
+        one_hit(true, ps, w, t.care[w], columns::misses(t, columns[w], w))
     }
-    if free == 1 {
-        return matches::wire_hits(true, t, columns, ps, n, w);
-    }
-    let care = t.care;
-    one_hit(true, ps, w, care[w], columns::misses(t, columns[w], w))
 }
 
 // Whether some product of three columns mends an output or cleans the ancilla.
@@ -121,11 +110,7 @@ pub fn wide_fixable(t: Wanted, columns: [u16; 5], n: usize, free: usize) -> bool
     requires { Width n }
     ensures { result ≡ fixable (part true) t columns n free }
 {
-    let a = columns[0];
-    let b = columns[1];
-    let c = columns[2];
-    let d = columns[3];
-    let e = columns[4];
+    let [a, b, c, d, e] = columns;
     wide_hits(t, a, b, c, d, e, n, free, n)
         | (logic::picked(n == 4, wide_hits(t, a, b, c, d, e, n, free, 3), 0)
             | (wide_hits(t, a, b, c, d, e, n, free, 2)

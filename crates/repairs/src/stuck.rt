@@ -22,21 +22,12 @@ pub fn stuck(
     ensures { result ≡ stuck controls t columns n free most }
 {
     let dirt = outputs::spilt(n, columns);
-    let least = outputs::missing(t, columns, n, free) + outputs::one(dirt != 0) as usize;
+    let least = outputs::missing(t, columns, n, free) + usize::from(dirt != 0);
     if least != most {
         return most < least;
     }
-    if most == 0 {
-        return false;
-    }
-    if repairable::cleanable(n, columns, dirt) {
-        return false;
-    }
-    if repairable::mendable(t, columns, n, free) != 0 {
-        return false;
-    }
-    if controls == 2 {
-        return true;
-    }
-    !repairable::wide_fixable(t, columns, n, free)
+    most != 0
+        && !repairable::cleanable(n, columns, dirt)
+        && repairable::mendable(t, columns, n, free) == 0
+        && (controls == 2 || !repairable::wide_fixable(t, columns, n, free))
 }

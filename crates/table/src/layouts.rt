@@ -1,5 +1,5 @@
 // Final layouts (document 01: placings): one byte that says which wire each output ends on. Which bytes are in order, which layouts a job
-// allows, and the constant tables of them.
+// allows, and the constant tables of them. The width is a number with the clause `Width`, and no type: these public calls take it so.
 ghost use Rattle.std.specs.Prelude.{◌≡◌, length, get_or};
 ghost use Rattle.table.specs.layouts.Layouts.{Width, layout_ok, layouts_for, allowed, plain};
 

@@ -15,12 +15,13 @@ ghost use Rattle.text.specs.pieces.Writing.{Wrote};
 use circuit::measures::Measures;
 
 // Writes `refused` and the number from index `i` on, and answers the index after the line.
+#[tactic(auto, using(crate::proofs::pieces::Pieces::decimal_short))]
 pub fn put_refused(out: &mut [u8], i: usize, code: u8) -> usize
     requires { i + 14 ≤ length out.old }
     ensures { Wrote out.old i (refused_line code) out.new result }
 {
     let a = pieces::put_text(out, i, b"refused ");
-    let b = pieces::put_decimal(out, a, code as usize);
+    let b = pieces::put_decimal(out, a, usize::from(code));
     pieces::put(out, b, b'\n')
 }
 
@@ -33,6 +34,21 @@ pub fn refused_line(code: u8, out: &mut [u8]) -> usize
     put_refused(out, 0, code)
 }
 
+// Writes `found`, the measures and the record at the start of the buffer, and answers the index after the line.
+#[tactic(auto, using(crate::proofs::pieces::Pieces::spaced_short, crate::proofs::pieces::Pieces::hex_length))]
+fn put_found(out: &mut [u8], m: Measures, bytes: &[u8]) -> usize
+    requires bytes_len_bound { length bytes.now ≤ 15 }
+    requires in_bounds { 64 ≤ length out.old }
+    ensures { Wrote out.old 0 (found_line m bytes.now) out.new result }
+{
+    let a = pieces::put_text(out, 0, b"found ");
+    let b = pieces::put_spaced(out, a, usize::from(m.gates));
+    let c = pieces::put_spaced(out, b, usize::from(m.cost));
+    let d = pieces::put_spaced(out, c, usize::from(m.depth));
+    let e = hex::put_hex(out, d, bytes);
+    pieces::put(out, e, b'\n')
+}
+
 // Writes `found`, the measures and the record at the start of the buffer, and answers the line's length.
 pub fn found_line(m: Measures, bytes: &[u8], out: &mut [u8]) -> usize
     requires bytes_len_bound { length bytes.now ≤ 15 }
@@ -40,10 +56,5 @@ pub fn found_line(m: Measures, bytes: &[u8], out: &mut [u8]) -> usize
     ensures value { result ≡ length (found_line m bytes.now) }
     ensures out_after { out.new ≡ in_front (found_line m bytes.now) out.old }
 {
-    let a = pieces::put_text(out, 0, b"found ");
-    let b = pieces::put_spaced(out, a, m.gates as usize);
-    let c = pieces::put_spaced(out, b, m.cost as usize);
-    let d = pieces::put_spaced(out, c, m.depth as usize);
-    let e = hex::put_hex(out, d, bytes);
-    pieces::put(out, e, b'\n')
+    put_found(out, m, bytes)
 }

@@ -1,22 +1,19 @@
 -- The two ways out of a batch: a rule broken, or every job searched for.
-use mathlib.Core.Path.{◌≡◌}
+use mathlib.Core.Path.{◌≡◌, ap, ◌∙◌}
 use mathlib.Core.List.{List}
 use Prim.Native.Nat.{ℕ, ◌*◌, ◌≤◌}
 use borrow.Author.Tests.{eq-eqb, ne_eqb, leb-true}
-use lib.Dec.{leb, eqb, lit<}
+use lib.Dec.{leb, lit<}
 use lib.ListN.{length}
-use Rattle.logic.specs.Rules.{both, rule}
-use Rattle.logic.specs.Lists.{total}
+use Rattle.logic.specs.Rules.{rule}
+use native.Mathlib.Omega.{arith}
+use Rattle.record.specs.Answers.{number}
+use Rattle.record.specs.declared.refusal.Refusal.{Refusal}
+use Rattle.record.proofs.Refusals.{number_pos}
 use Rattle.logic.specs.Answers.{refused, answered}
 use Rattle.logic.proofs.Chain.{both_parts, rule_kept}
 use Rattle.batch.specs.cutting.Records.{records_of, count_of, all_cut}
 use Rattle.batch.specs.cells.Batches.{room_ok, batch_code, batch_of, cells_after, statuses_after, answers_left, statuses_left}
-
--- the rules, by the number of records and where the last one ends
-pub code_is : (jobs : List ℕ) (answers statuses count end : ℕ) → count ≡ count_of jobs → end ≡ total length (records_of jobs)
-    → rule (eqb end (length jobs)) 26 (rule (both (leb (15 * count) answers) (leb count statuses)) 27 0) ≡ batch_code jobs answers statuses
-unfolding batch_code all_cut room_ok
-code_is jobs answers statuses count end e f = rw (e, f)
 
 -- no rule broken: there is a cell and a status byte for each record
 pub rooms : (jobs : List ℕ) (answers statuses : ℕ) → batch_code jobs answers statuses ≡ 0
@@ -36,6 +33,12 @@ module _ (jobs answers statuses : List ℕ) where
   refusing n =
       let e = ne_eqb (batch_code jobs (length answers) (length statuses)) 0 n in
       (rw e, (rw e, rw e))
+
+  -- the same, where the number of the rule is known
+  pub refused_with : (e : Refusal) → number e ≡ batch_code jobs (length answers) (length statuses)
+      → (refused (number e) ≡ batch_of jobs (length answers) (length statuses))
+      × ((answers ≡ answers_left jobs answers statuses) × (statuses ≡ statuses_left jobs answers statuses))
+  refused_with e h = let r = refusing (λ z. absurd (omega (arith, number_pos e))) in (ap refused h ∙ r.0, r.1)
 
   pub searching : batch_code jobs (length answers) (length statuses) ≡ 0
       → (answered (count_of jobs) ≡ batch_of jobs (length answers) (length statuses))

@@ -7,25 +7,23 @@ use borrow.Rule.Slice.PartMut.{put_mid, Post-is}
 use lib.ListN.{length, take, drop, set}
 use lib.Seq.{take_at, drop_at, drop-length, length-take-le}
 use Rattle.logic.specs.Answers.{Answer, refused, answered}
-use Rattle.outcomes.specs.declared.Searched.{Searched}
-use Rattle.outcomes.specs.declared.Searched.TheVariants.{Refused, Found}
+use Rattle.std.specs.Prelude.{Result, Ok, Err}
+use Rattle.record.specs.Answers.{code_of, reply}
+use Rattle.record.specs.declared.refusal.Refusal.{Refusal}
+use Rattle.outcomes.specs.declared.Reported.{Reported}
 use Rattle.outcomes.specs.Outcomes as outcomes
-use Rattle.outcomes.specs.Outcomes.{reported, written, searched_answer}
+use Rattle.outcomes.specs.Outcomes.{reported, written}
 use Rattle.batch.specs.cutting.Records.{record_size, records}
 use Rattle.batch.specs.cells.Batches.{alone_of, status_of, cells_after, statuses_after}
 use Rattle.batch.proofs.cutting.Cutting.{rest_is, one_here}
 use Rattle.batch.proofs.cells.Cells.{cell_stays}
 
 -- the status that goes with an answer of the search
-abbrev pub status_in : Searched → ℕ
-status_in (Refused code) = code
-status_in (Found size m) = 0
-
-pub status_is : (o : Answer outcomes.Found) (r : Searched) → searched_answer r ≡ reported o → status_in r ≡ status_of o
-status_is (refused k) (Refused x) e = cc
-status_is (answered f) (Refused x) e = let z : ◌≡◌ {A = ℕ} 0 1 = cc in absurd (omega arith)
-status_is (refused k) (Found s m) e = let z : ◌≡◌ {A = ℕ} 0 1 = cc in absurd (omega arith)
-status_is (answered f) (Found s m) e = refl
+pub status_is : (o : Answer outcomes.Found) (r : Result Reported Refusal) → reply r ≡ reported o → code_of r ≡ status_of o
+status_is (refused k) (Err e) h = cc
+status_is (answered f) (Err e) h = let z : ◌≡◌ {A = ℕ} 0 1 = cc in absurd (omega arith)
+status_is (refused k) (Ok x) h = let z : ◌≡◌ {A = ℕ} 0 1 = cc in absurd (omega arith)
+status_is (answered f) (Ok x) h = refl
 
 -- a list whose part from a on was lent and came back
 tail_put : (a : ℕ) (xs ys : List ℕ) → a ≤ length xs → put_mid a (length xs - a) xs ys ≡ take a xs ++ ys

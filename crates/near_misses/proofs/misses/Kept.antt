@@ -9,7 +9,7 @@ use native.Mathlib.Omega.{arith}
 use borrow.Author.Tests.{eq-eqb, ne_eqb}
 use lib.Bits.{bit_xor}
 use lib.Dec.{eqb}
-use lib.ListN.{length, get_or}
+use lib.ListN.{length, get_or, drop}
 use lib.Seq.{get_or-set_other}
 use Rattle.logic.specs.Rules.{either, pick, bit, count_below}
 use Rattle.logic.specs.Lists.{all_of, along}
@@ -72,15 +72,23 @@ left_least (true ∷ hs) (x ∷ xs) (suc r) e h = omega (arith, left_least hs xs
 left_least (false ∷ hs) (x ∷ xs) zero e h = omega (arith, left_least hs xs zero (omega arith) (omega arith))
 left_least (false ∷ hs) (x ∷ xs) (suc r) e h = omega (arith, left_least hs xs (suc r) (omega arith) (omega arith))
 
--- one number more, and enough that may be left out
-pub left_none : (x : ℕ) (xs : List ℕ) (r : ℕ) → r ≡ 0 → least_left (x ∷ xs) r ≡ x + least_left xs r
+-- no number; the first of some, where none and where some may be left out; and enough that may be left out
+pub left_empty : (xs : List ℕ) (r : ℕ) → length xs < 1 → 0 ≡ least_left xs r
 unfolding least_left
-left_none x xs r h = rw h
+left_empty [] r h = refl
+left_empty (x ∷ xs) r h = absurd (omega arith)
 
-pub left_some : (x : ℕ) (xs : List ℕ) (r : ℕ) → (r ≡ 0 → ⊥) → least_left (x ∷ xs) r ≡ min (x + least_left xs r) (least_left xs (r - 1))
+pub left_none : (xs : List ℕ) (r : ℕ) → 1 ≤ length xs → r ≡ 0 → get_or xs 0 0 + least_left (drop 1 xs) r ≡ least_left xs r
 unfolding least_left
-left_some x xs zero h = absurd (h refl)
-left_some x xs (suc r) h = let e : suc r - 1 ≡ r = omega arith in rw e
+left_none [] r l h = absurd (omega arith)
+left_none (x ∷ xs) r l h = rw h
+
+pub left_some : (xs : List ℕ) (r : ℕ) → 1 ≤ length xs → (r ≡ 0 → ⊥)
+    → min (get_or xs 0 0 + least_left (drop 1 xs) r) (least_left (drop 1 xs) (r - 1)) ≡ least_left xs r
+unfolding least_left
+left_some [] r l h = absurd (omega arith)
+left_some (x ∷ xs) zero l h = absurd (h refl)
+left_some (x ∷ xs) (suc r) l h = let e : suc r - 1 ≡ r = omega arith in rw e
 
 left_all : (xs : List ℕ) (r : ℕ) → length xs ≤ r → least_left xs r ≡ 0
 unfolding least_left

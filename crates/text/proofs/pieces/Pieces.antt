@@ -8,6 +8,9 @@ use native.Mathlib.Omega.{arith}
 use lib.Dec.{leb}
 use lib.ListN.{length, drop, get_or, set, length-append, drop_of_length-le}
 use lib.Seq.{sets, sets-eq, drop-cons}
+use borrow.Rule.Slice.PartMut.{put_mid}
+use Rattle.std.proofs.Common.{append_assoc, take, sym}
+use Rattle.std.proofs.lemmas.List.{drop-drop}
 use Rattle.logic.specs.Rules.{pick}
 use Rattle.circuit.specs.declared.measures.Measures.{Measures}
 use Rattle.text.specs.pieces.Text.{place, decimal, spaced, hex_digit, hex_of, refused_line, found_line, in_front}
@@ -43,17 +46,13 @@ module _ {l line n : List ℕ} {k : ℕ} (w : Wrote l 0 line n k) where
   line_in_front h =
       let e : 0 + length line ≡ length line = omega arith in w.bytes ∙ sets-eq line l 0 (omega arith) ∙ ap (λ (k : ℕ). line ++ drop k l) e
 
--- what a loop that has written k bytes of a text still owes
-pub text_more : (l text : List ℕ) (i k : ℕ) → k < length text
-    → over (set l (i + k) (get_or text k 0)) (i + (k + 1)) (drop (k + 1) text) ≡ over l (i + k) (drop k text)
+-- a text that is copied into a part of the buffer
+pub over_part : (l text : List ℕ) (i k : ℕ) → k ≡ length text → i + k ≤ length l → put_mid i k l text ≡ over l i text
 unfolding over
-text_more l text i k h = let e : i + (k + 1) ≡ suc (i + k) = omega arith in rw (e, add-one, drop-cons text k 0 h)
+over_part l text i k e h =
+    rw (e, drop-drop (length text) i l, sets-eq text l i (omega arith)) (sym (append_assoc (take i l) text (drop (i + length text) l)))
 
-pub text_done : (l text : List ℕ) (i k : ℕ) → length text ≤ k → over l i (drop k text) ≡ l
-unfolding over
-text_done l text i k h = rw (drop_of_length-le text h)
-
--- the same for hexadecimal digits
+-- what a loop that has written the digits of k bytes still owes
 pub hex_more : (l bytes : List ℕ) (i k : ℕ) → k < length bytes
     → over (set (set l (i + 2 * k) (hex_digit (get_or bytes k 0 / 16))) (i + 2 * k + 1) (hex_digit (get_or bytes k 0 % 16))) (i + 2 * (k + 1))
     (hex_of (drop (k + 1) bytes))

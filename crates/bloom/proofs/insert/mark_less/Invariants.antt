@@ -1,7 +1,7 @@
 -- The invariant: no bit was cleared, and the hash less each of the shares passed is in, except that of wire `but`.
 use mathlib.Core.Path.{◌≡◌}
 use mathlib.Core.Bool.{true}
-use Prim.Native.Nat.{ℕ, ◌-◌, ◌≤◌, ◌<◌}
+use Prim.Native.Nat.{ℕ, ◌-◌, ◌<◌}
 use lib.ListN.{length, get_or}
 use Rattle.bloom.specs.bits.Places.{key_of, lit_at, Grown}
 use Rattle.bloom.proofs.insert.mark_less.Given as goal

@@ -1,7 +1,7 @@
 -- The invariant: no bit was cleared, and for each share passed that is not 0, the hash less it and one before it is in.
 use mathlib.Core.Path.{◌≡◌}
 use mathlib.Core.Bool.{true}
-use Prim.Native.Nat.{ℕ, ◌-◌, ◌≤◌, ◌<◌}
+use Prim.Native.Nat.{ℕ, ◌-◌, ◌<◌}
 use lib.Dec.{eqb}
 use lib.ListN.{length, get_or}
 use Rattle.logic.specs.Rules.{pick}

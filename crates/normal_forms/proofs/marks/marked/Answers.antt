@@ -14,8 +14,8 @@ pub returns : goal.returns
 unfolding marked
 returns c =
     let f : ℕ → ℕ = λ u. bit_or (get_or c.args.marks.sleep u 0) (get_or c.args.marks.cancel u 0) in
-    let t = c.wide-t.result / 32 in
-    let e : t ≡ target_of c.args.g = ap (λ (x : ℕ). x / 32) c.wide-t.ensures in
+    let t = c.from-t.result / 32 in
+    let e : t ≡ target_of c.args.g = ap (λ (x : ℕ). x / 32) c.from-t.ensures in
     ap (λ (x : ℕ). eqb (x / 2 ^ (c.args.g % 32) % 2) 1)
     (c.picked-word.ensures
     ∙ ap (pick (eqb t 0) (f 0))

@@ -13,5 +13,6 @@ returns c k t hk hg e =
     let l : length c.args.columns ≡ 5 = search rules in
     let h = c.requires.g_bound in
     c.with_cell.ensures
+    ∙ ap (λ w. set c.args.columns w c.next_column.result) c.from-t.ensures
     ∙ ap (set c.args.columns (target_of c.args.g))
     (c.next_column.ensures k t c.args.columns hk hg l e ∙ get_or-set_same c.args.columns (target_of c.args.g) _ 0 (omega arith))

@@ -2,7 +2,7 @@ use Rattle.std.proofs.Common.{◌≡◌, ◌/◌, refl, sym, ap, ◌∙◌, rule
 use borrow.Author.Tests.{eq-eqb, ne_eqb}
 use Rattle.std.proofs.lemmas.Iterator.{YieldsList-from_range}
 use Rattle.std.proofs.lemmas.Iterator.Search.{all_from_yields_List}
-use Rattle.logic.proofs.Chains.{all_in_range}
+use Rattle.logic.proofs.Chains.{list_all_is_all_below}
 use Rattle.gate.specs.Gates.{target_of}
 use Rattle.reach_filter.specs.mirrors.Mirrors.{wire_at, same_control, mirrors}
 use Rattle.reach_filter.proofs.mirrors.mirrors.Goals as goal
@@ -18,7 +18,7 @@ returns-then-wire_at-from c =
     let t = targets (goal.at.returns-then-wire_at-from c).After-from-2 in
     rw (eq-eqb (wire_at c.args.n c.args.p (target_of c.args.h)) (target_of c.args.g) (sym t.0 ∙ c.if-wire_at-from.true ∙ t.1))
     (all_from_yields_List (same_control c.args.n c.args.p c.args.g c.args.h) _ _ _ c.all.ensures.ran (YieldsList-from_range 0 5 5 (cc) refl) (λ x b q k. search (rules, tests))
-    ∙ all_in_range (same_control c.args.n c.args.p c.args.g c.args.h) 5)
+    ∙ list_all_is_all_below (same_control c.args.n c.args.p c.args.g c.args.h) 5)
 
 pub returns-else-wire_at-from : goal.returns-else-wire_at-from
 unfolding mirrors

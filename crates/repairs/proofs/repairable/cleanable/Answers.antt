@@ -17,6 +17,6 @@ pub returns : goal.returns
 unfolding cleanable
 returns c =
     ap (λ x. eqb x 1)
-    (c.one_hit.ensures c.args.columns c.products.ensures
+    (c.one_hit.ensures c.args.columns c.products-ps.ensures
     ∙ (λ i. bit (both (not (eqb (c.requires.spilt_value i) 0)) (adds (part false) c.args.columns c.args.n (c.all_rows.ensures i) (c.requires.spilt_value i)))))
     ∙ bit_one (cleanable (part false) c.args.columns c.args.n)

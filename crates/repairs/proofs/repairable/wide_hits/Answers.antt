@@ -27,7 +27,7 @@ unfolding fixes_on cleanable
 returns-then-n-w c =
     rw (eq-eqb _ _ c.if-n-w.true)
     (c.one_hit.ensures (cells (goal.at.returns-then-n-w c).Start) c.triples-ps.ensures
-    ∙ (λ i. bit (both (not (eqb (c.dirt.ensures i) 0)) (adds (part true) (cells (goal.at.returns-then-n-w c).Start) c.args.n (c.all_rows.ensures i) (c.dirt.ensures i)))))
+    ∙ (λ i. bit (both (not (eqb (c.dirt-spilt.ensures i) 0)) (adds (part true) (cells (goal.at.returns-then-n-w c).Start) c.args.n (c.all_rows.ensures i) (c.dirt-spilt.ensures i)))))
 
 pub returns-then-free-eq1 : goal.returns-then-free-eq1
 unfolding fixes_on
@@ -35,9 +35,9 @@ returns-then-free-eq1 c =
     rw (ne_eqb _ _ c.if-n-w.false, eq-eqb _ _ c.if-free-eq1.true)
     (c.wire_hits.ensures ∙ ap bit (wire_is true c.args.t (cells (goal.at.returns-then-free-eq1 c).Start) c.args.n c.requires.width _ c.triples-ps.ensures c.args.w (output (goal.at.returns-then-free-eq1 c).Else-n-w)))
 
-pub returns : goal.returns
+pub returns-else-free-eq1 : goal.returns-else-free-eq1
 unfolding fixes_on mendable_on
-returns c =
+returns-else-free-eq1 c =
     rw (ne_eqb _ _ c.if-n-w.false, ne_eqb _ _ c.if-free-eq1.false)
-    (c.one_hit-2.ensures (cells (goal.at.returns c).Start) c.triples-ps.ensures
-    ∙ (λ i. bit (both (not (eqb (c.misses.ensures i) 0)) (adds (part true) (cells (goal.at.returns c).Start) c.args.w (get_or c.args.t.care c.args.w 0) (c.misses.ensures i)))))
+    (c.one_hit-else-free-eq1.ensures (cells (goal.at.returns-else-free-eq1 c).Start) c.triples-ps.ensures
+    ∙ (λ i. bit (both (not (eqb (c.misses.ensures i) 0)) (adds (part true) (cells (goal.at.returns-else-free-eq1 c).Start) c.args.w (get_or c.args.t.care c.args.w 0) (c.misses.ensures i)))))

@@ -1,11 +1,12 @@
-use mathlib.Core.Path.{◌≡◌, sym, ap, ◌∙◌}
+use mathlib.Core.Path.{◌≡◌, refl, sym, ap, ◌∙◌}
 use mathlib.Core.Bool.{Bool, true, false, not}
 use Prim.Native.Nat.{ℕ, ◌+◌}
-use borrow.Author.Tests.{eq-eqb, ne_eqb, not-true, not-false}
+use borrow.Author.Tests.{eq-eqb, ne_eqb}
 use mathlib.Core.List.{List}
 use lib.Dec.{eqb}
 use lib.ListN.{get_or}
 use Rattle.logic.specs.Rules.{both, either, bit}
+use Rattle.logic.proofs.Chains.{from_bool_is_bit}
 use Rattle.columns.specs.declared.Wanted.{Wanted}
 use Rattle.columns.specs.Wanted.{dirt}
 use Rattle.outputs.specs.Owed.{Controls, owed, lost, up_to, mendable, cleanable, fixable, stuck}
@@ -13,7 +14,7 @@ use Rattle.outputs.specs.products.Products.{part}
 use Rattle.repairs.proofs.matches.Joined.{bit_none}
 use Rattle.repairs.proofs.stuck.Parts.{fixable_parts}
 use Rattle.repairs.proofs.stuck.stuck.Goals as goal
-use Rattle.repairs.proofs.stuck.stuck.Goals.{Else-mendable-ne0}
+use Rattle.repairs.proofs.stuck.stuck.Goals.{Joined-not-cleanable, then-most-ne0, else-most-ne0, then-not-cleanable, else-not-cleanable}
 
 -- the sum is what is lost
 least : (t : Wanted) (cs : List ℕ) (n free missed dirty spilt : ℕ) → missed ≡ owed t cs n free 4 → dirty ≡ bit (not (eqb spilt 0))
@@ -32,53 +33,54 @@ parted k t cs n free h = fixable_parts cs t k n free h
 told : (b : Bool) (r : ℕ) → r ≡ bit b → eqb r 0 ≡ not b
 told b r h = ap (λ x. eqb x 0) h ∙ bit_none b
 
--- no product of at most two columns puts anything right
-none_of_two : (c : Else-mendable-ne0)
-    → stuck c.args.controls c.args.t c.args.columns c.args.n c.args.free c.args.most
-    ≡ not (both (not (eqb c.args.controls 2)) (fixable (part true) c.args.t c.args.columns c.args.n c.args.free))
-unfolding stuck
-none_of_two c =
-    let m = mendable (part false) c.args.t c.args.columns c.args.n c.args.free in
-    let none = not-true m (sym (told m _ c.mendable.ensures) ∙ eq-eqb _ _ c.if-mendable-ne0.false) in
-    rw (
-      ← least c.args.t c.args.columns c.args.n c.args.free _ _ _ c.missing.ensures.value c.one.ensures.value c.spilt-dirt.ensures,
-      eq-eqb _ _ c.if-least-most.false,
-      ne_eqb _ _ c.if-most-eq0.false,
-      parted c.args.controls c.args.t c.args.columns c.args.n c.args.free c.requires.0,
-      ← c.cleanable.ensures,
-      c.if-cleanable.false,
-      none,
-    )
-
 pub returns-then-least-most : goal.returns-then-least-most
 unfolding stuck
-returns-then-least-most c = rw (← least c.args.t c.args.columns c.args.n c.args.free _ _ _ c.missing.ensures.value c.one.ensures.value c.spilt-dirt.ensures, ne_eqb _ _ c.if-least-most.true)
+returns-then-least-most c = rw (← least c.args.t c.args.columns c.args.n c.args.free _ _ _ c.missing.ensures.value (c.from.ensures ∙ from_bool_is_bit _) c.spilt-dirt.ensures, ne_eqb _ _ c.if-least-most.true)
 
-pub returns-then-most-eq0 : goal.returns-then-most-eq0
-unfolding stuck
-returns-then-most-eq0 c = rw (← least c.args.t c.args.columns c.args.n c.args.free _ _ _ c.missing.ensures.value c.one.ensures.value c.spilt-dirt.ensures, c.if-least-most.false, c.if-most-eq0.true)
+-- the tests in the order in which the code makes them
+in_turn : (m a b e f : Bool) → both (not m) (not (either (either a b) (both (not e) f))) ≡ both (both (both (not m) (not a)) (not b)) (either e (not f))
+in_turn true a b e f = refl
+in_turn false true b e f = refl
+in_turn false false true e f = refl
+in_turn false false false true f = refl
+in_turn false false false false f = refl
 
-pub returns-then-cleanable : goal.returns-then-cleanable
-unfolding stuck
-returns-then-cleanable c = rw (← least c.args.t c.args.columns c.args.n c.args.free _ _ _ c.missing.ensures.value c.one.ensures.value c.spilt-dirt.ensures, eq-eqb _ _ c.if-least-most.false, ne_eqb _ _ c.if-most-eq0.false, parted c.args.controls c.args.t c.args.columns c.args.n c.args.free c.requires.0, ← c.cleanable.ensures, c.if-cleanable.true)
+-- more than nothing is lost, and no product of at most two columns puts any of it right
+none_of_two : (c : Joined-not-cleanable)
+    → c.if-not-cleanable.value
+    ≡ both (both (not (eqb c.args.most 0)) (not (cleanable (part false) c.args.columns c.args.n))) (not (mendable (part false) c.args.t c.args.columns c.args.n c.args.free))
+none_of_two c = second
+  where
+    m : Bool
+    m = mendable (part false) c.args.t c.args.columns c.args.n c.args.free
 
-pub returns-then-mendable-ne0 : goal.returns-then-mendable-ne0
+    k : Bool
+    k = cleanable (part false) c.args.columns c.args.n
+
+    first : c.if-most-ne0.value ≡ both (not (eqb c.args.most 0)) (not k)
+    first = elim c.if-most-ne0.branch [ then-most-ne0 w ↦ rw (ne_eqb _ _ w.if-most-ne0.true) (w.value-is ∙ ap not w.cleanable.ensures) | else-most-ne0 w ↦ rw w.if-most-ne0.false (rw w.if-most-ne0.false at w.value-is) ]
+
+    second : c.if-not-cleanable.value ≡ both (both (not (eqb c.args.most 0)) (not k)) (not m)
+    second = elim c.if-not-cleanable.branch [ then-not-cleanable w ↦ rw (sym first ∙ w.if-not-cleanable.true) (w.value-is ∙ told m _ w.mendable.ensures) | else-not-cleanable w ↦ rw (sym first ∙ w.if-not-cleanable.false) (w.value-is ∙ w.if-not-cleanable.false) ]
+
+asked : (c : Joined-not-cleanable)
+    → stuck c.args.controls c.args.t c.args.columns c.args.n c.args.free c.args.most
+    ≡ both c.if-not-cleanable.value (either (eqb c.args.controls 2) (not (fixable (part true) c.args.t c.args.columns c.args.n c.args.free)))
 unfolding stuck
-returns-then-mendable-ne0 c =
-    let m = mendable (part false) c.args.t c.args.columns c.args.n c.args.free in
-    let some = not-false m (sym (told m _ c.mendable.ensures) ∙ ne_eqb _ _ c.if-mendable-ne0.true) in
+asked c =
     rw (
-      ← least c.args.t c.args.columns c.args.n c.args.free _ _ _ c.missing.ensures.value c.one.ensures.value c.spilt-dirt.ensures,
+      ← least c.args.t c.args.columns c.args.n c.args.free _ _ _ c.missing.ensures.value (c.from.ensures ∙ from_bool_is_bit _) c.spilt-dirt.ensures,
       eq-eqb _ _ c.if-least-most.false,
-      ne_eqb _ _ c.if-most-eq0.false,
       parted c.args.controls c.args.t c.args.columns c.args.n c.args.free c.requires.0,
-      ← c.cleanable.ensures,
-      c.if-cleanable.false,
-      some,
+      none_of_two c,
     )
+    (in_turn (eqb c.args.most 0) (cleanable (part false) c.args.columns c.args.n) (mendable (part false) c.args.t c.args.columns c.args.n c.args.free) (eqb c.args.controls 2) (fixable (part true) c.args.t c.args.columns c.args.n c.args.free))
 
 pub returns-then-controls-eq2 : goal.returns-then-controls-eq2
-returns-then-controls-eq2 c = rw (none_of_two (goal.at.returns-then-controls-eq2 c).Else-mendable-ne0, eq-eqb _ _ c.if-controls-eq2.true)
+returns-then-controls-eq2 c = rw (asked (goal.at.returns-then-controls-eq2 c).Joined-not-cleanable, c.if-mendable-eq0.true, eq-eqb _ _ c.if-controls-eq2.true) refl
 
-pub returns : goal.returns
-returns c = rw (none_of_two (goal.at.returns c).Else-mendable-ne0, ne_eqb _ _ c.if-controls-eq2.false, ← c.wide_fixable.ensures)
+pub returns-else-controls-eq2 : goal.returns-else-controls-eq2
+returns-else-controls-eq2 c = rw (asked (goal.at.returns-else-controls-eq2 c).Joined-not-cleanable, c.if-mendable-eq0.true, ne_eqb _ _ c.if-controls-eq2.false, ← c.wide_fixable.ensures) refl
+
+pub returns-else-mendable-eq0 : goal.returns-else-mendable-eq0
+returns-else-mendable-eq0 c = rw (asked (goal.at.returns-else-mendable-eq0 c).Joined-not-cleanable, c.if-mendable-eq0.false) refl

@@ -1,4 +1,3 @@
-use lib.ListN.{take}
 use Rattle.problem.specs.Entries.{entry_gates}
 use Rattle.solver.proofs.prospects.EachOnce.{gates_among, sieve_fewer}
 use Rattle.solver.proofs.prospects.filled.Goals as goal

@@ -1,9 +1,8 @@
 // `gazbolk compare`: two jobs that are alike but for one price.
-ghost use Rattle.std.specs.Prelude.{◌≡◌, suc, ◌≤◌, length};
-ghost use Rattle.record.specs.JobRules.{longest_job};
+ghost use Rattle.std.specs.Prelude.{◌≡◌, ◌≤◌, length};
 ghost use Rattle.outcomes.specs.Outcomes.{search_of};
 ghost use Rattle.text.specs.pieces.Text.{in_front};
-ghost use Rattle.printed.specs.differences.Compare.{compare_text, TellingPair};
+ghost use Rattle.printed.specs.differences.Compare.{compare_text};
 ghost use Rattle.printed.specs.differences.Inner.{after_old, both_text};
 
 use circuit::measures::Measures;
@@ -11,15 +10,6 @@ use outcomes::Searched;
 use printed::differences;
 use reports::refusal;
 use sensitivity::alike;
-
-// How many bytes of either job decide what is printed: one more than the longest job has.
-pub fn job_room() -> usize
-    ensures value { result ≡ suc longest_job }
-    ensures telling_pair { TellingPair result }
-    ensures upper_bound { result ≤ 4096 }
-{
-    31
-}
 
 // Searches for the new job's circuit, after the old job's was found, and writes what is printed for both.
 fn put_after(m: Measures, circuit: &[u8], new: &[u8], out: &mut [u8]) -> usize

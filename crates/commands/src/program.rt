@@ -6,7 +6,7 @@ ghost use Rattle.printed.specs.job_line.Lines.{line_of};
 
 use console::{input, output};
 use outcomes::Searched;
-use printed::job_line;
+use printed::files;
 use std::io::Read;
 
 // Searches for a job's circuit and writes the line to the start of `out`; returns the line's length.
@@ -26,7 +26,7 @@ pub fn line(job: &[u8], out: &mut [u8]) -> usize
 // Reads one job from what is open, standard input in `main`, and prints its line.
 pub fn answer(rt: &impl Print, reader: &mut impl Read) {
     let mut job = io::buffer();
-    let room = job_line::room();
+    let room = files::job_room();
     let n = input::read_full(reader, &mut job[..room]);
     let mut out = [0u8; 64];
     let size = line(&job[..n], &mut out);

@@ -2,7 +2,7 @@
 use mathlib.Core.Path.{sym, ◌∙◌}
 use native.Mathlib.Omega.{arith}
 use Rattle.reports.proofs.refusal.Short.{refused_short}
-use Rattle.commands.proofs.compare.Printed.{when_broken, when_kept}
+use Rattle.printed.proofs.differences.Told.{when_broken, when_kept}
 use Rattle.commands.proofs.compare.compare_text.Goals as goal
 
 pub returns-then-code-ne0-clause-out_after : goal.returns-then-code-ne0-clause-out_after

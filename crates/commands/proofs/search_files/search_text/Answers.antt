@@ -14,7 +14,7 @@ use Rattle.text.proofs.pieces.Pieces.{found_short}
 use Rattle.printed.specs.job_line.Lines.{line_for}
 use Rattle.reports.specs.refusal.Report.{refused_text}
 use Rattle.reports.proofs.refusal.Short.{refused_short}
-use Rattle.printed.specs.files.Files.{given, finding, explained, search_text}
+use Rattle.printed.specs.files.Files.{lent, finding, explained, search_text}
 use Rattle.commands.proofs.search_files.search_text.Goals as goal
 use Rattle.commands.proofs.search_files.search_text.Goals.{In-Found}
 
@@ -38,38 +38,38 @@ within c = let k = c.find.auto.answer in let s = small c in omega arith
 pub returns-in-Refused-clause-out_after : goal.returns-in-Refused-clause-out_after
 unfolding search_text
 returns-in-Refused-clause-out_after c =
-    let o = finding c.args.job.now (given c.args.named c.args.library.now) 15 in
+    let o = finding c.args.job.now (lent c.args.library) 15 in
     let e = refused_is o c.in-Refused.code (when_refused o c.find.result c.in-Refused.code c.find.ensures.result_value c.in-Refused.is) in rw e c.refused_text.ensures.out_after
 
 pub returns-in-Refused-clause-upper_bound : goal.returns-in-Refused-clause-upper_bound
 unfolding search_text
 returns-in-Refused-clause-upper_bound c =
-    let o = finding c.args.job.now (given c.args.named c.args.library.now) 15 in
+    let o = finding c.args.job.now (lent c.args.library) 15 in
     let e = refused_is o c.in-Refused.code (when_refused o c.find.result c.in-Refused.code c.find.ensures.result_value c.in-Refused.is) in rw c.refused_text.ensures.value (refused_short c.in-Refused.code)
 
 pub returns-in-Refused-clause-value : goal.returns-in-Refused-clause-value
 unfolding search_text
 returns-in-Refused-clause-value c =
-    let o = finding c.args.job.now (given c.args.named c.args.library.now) 15 in
+    let o = finding c.args.job.now (lent c.args.library) 15 in
     let e = refused_is o c.in-Refused.code (when_refused o c.find.result c.in-Refused.code c.find.ensures.result_value c.in-Refused.is) in rw e c.refused_text.ensures.value
 
 pub returns-in-Found-clause-upper_bound : goal.returns-in-Found-clause-upper_bound
 unfolding search_text
 returns-in-Found-clause-upper_bound c =
-    let o = finding c.args.job.now (given c.args.named c.args.library.now) 15 in
+    let o = finding c.args.job.now (lent c.args.library) 15 in
     let bytes = take c.in-Found.size c.find.new.answer in
     let e = found_is o _ bytes (when_found o c.find.result c.in-Found.size _ _ c.find.new.answer c.find.ensures.result_value c.in-Found.is c.find.ensures.answer_after) in rw c.found_line.ensures.value (found_fits _ bytes (rw (length-take-le c.in-Found.size c.find.new.answer (within (goal.at.returns-in-Found-clause-upper_bound c).In-Found)) (small (goal.at.returns-in-Found-clause-upper_bound c).In-Found)))
 
 pub returns-in-Found-clause-value : goal.returns-in-Found-clause-value
 unfolding search_text
 returns-in-Found-clause-value c =
-    let o = finding c.args.job.now (given c.args.named c.args.library.now) 15 in
+    let o = finding c.args.job.now (lent c.args.library) 15 in
     let bytes = take c.in-Found.size c.find.new.answer in
     let e = found_is o _ bytes (when_found o c.find.result c.in-Found.size _ _ c.find.new.answer c.find.ensures.result_value c.in-Found.is c.find.ensures.answer_after) in rw e c.found_line.ensures.value
 
 pub returns-in-Found-clause-out_after : goal.returns-in-Found-clause-out_after
 unfolding search_text
 returns-in-Found-clause-out_after c =
-    let o = finding c.args.job.now (given c.args.named c.args.library.now) 15 in
+    let o = finding c.args.job.now (lent c.args.library) 15 in
     let bytes = take c.in-Found.size c.find.new.answer in
     let e = found_is o _ bytes (when_found o c.find.result c.in-Found.size _ _ c.find.new.answer c.find.ensures.result_value c.in-Found.is c.find.ensures.answer_after) in rw e c.found_line.ensures.out_after

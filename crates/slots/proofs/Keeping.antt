@@ -12,6 +12,9 @@ use lib.Seq.{get_or-set_same, get_or-set_other}
 use Rattle.logic.specs.Answers.{Answer, refused, answered}
 use Rattle.text.specs.pieces.Text.{refused_line, found_line}
 use Rattle.outcomes.specs.Outcomes.{Found, search_of}
+use Rattle.record.specs.Answers.{number}
+use Rattle.record.specs.declared.refusal.Refusal.{Refusal}
+use Rattle.record.specs.declared.refusal.Refusal.TheVariants as broken
 use Rattle.printed.specs.job_line.Lines.{line_for, line_of}
 use Rattle.batch.specs.cutting.Records.{job_at}
 use Rattle.scheduler.specs.slot.Slots.{Slot, empty, working, finished, is_empty, is_working, is_finished, begun, tried}
@@ -166,3 +169,43 @@ module _ {jobs owners : List ℕ} {s : State} (k : Kept jobs owners s) where
     where
       apart : ◌≡◌ {A = Answer Found} (answered f) (refused 37) → ⊥
       apart q = let z : ◌≡◌ {A = ℕ} 0 1 = cc in omega arith
+
+-- no other refusal has its number
+pub finished_number : (r : Refusal) → (r ≡ broken.SlotUnfinished → ⊥) → number r ≡ 37 → ⊥
+finished_number broken.JobLength n e = omega (arith, e)
+finished_number broken.JobSize n e = omega (arith, e)
+finished_number broken.JobHead n e = omega (arith, e)
+finished_number broken.GateLimit n e = omega (arith, e)
+finished_number broken.Duration n e = omega (arith, e)
+finished_number broken.Row n e = omega (arith, e)
+finished_number broken.CircuitLength n e = omega (arith, e)
+finished_number broken.CircuitHead n e = omega (arith, e)
+finished_number broken.Layout n e = omega (arith, e)
+finished_number broken.GateCount n e = omega (arith, e)
+finished_number broken.OtherWires n e = omega (arith, e)
+finished_number broken.AnswerRoom n e = omega (arith, e)
+finished_number broken.NoCircuit n e = omega (arith, e)
+finished_number broken.LayoutNotAllowed n e = omega (arith, e)
+finished_number broken.TableMissed n e = omega (arith, e)
+finished_number broken.TooManyGates n e = omega (arith, e)
+finished_number broken.TooDear n e = omega (arith, e)
+finished_number broken.TooDeep n e = omega (arith, e)
+finished_number broken.Value n e = omega (arith, e)
+finished_number broken.UnlawfulGate n e = omega (arith, e)
+finished_number broken.TextForm n e = omega (arith, e)
+finished_number broken.TextGates n e = omega (arith, e)
+finished_number broken.DirtyAncilla n e = omega (arith, e)
+finished_number broken.SizesLength n e = omega (arith, e)
+finished_number broken.BatchForm n e = omega (arith, e)
+finished_number broken.BatchRoom n e = omega (arith, e)
+finished_number broken.UnfitMark n e = omega (arith, e)
+finished_number broken.LibraryLength n e = omega (arith, e)
+finished_number broken.LibraryEntry n e = omega (arith, e)
+finished_number broken.UnlistedGate n e = omega (arith, e)
+finished_number broken.Window n e = omega (arith, e)
+finished_number broken.ListLength n e = omega (arith, e)
+finished_number broken.ListGate n e = omega (arith, e)
+finished_number broken.NoSlot n e = omega (arith, e)
+finished_number broken.SlotTaken n e = omega (arith, e)
+finished_number broken.SlotUnfinished n e = n refl
+finished_number broken.NotComparable n e = omega (arith, e)

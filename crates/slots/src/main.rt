@@ -2,7 +2,7 @@
 // collected, with the number of turns taken by then.
 #![tactic(auto)]
 
-ghost use Rattle.std.specs.Prelude.{◌≡◌, List, ◌≤◌, ◌<◌, length, IfSome};
+ghost use Rattle.std.specs.Prelude.{◌≡◌, List, ℕ, ◌≤◌, ◌<◌, length, IfSome};
 ghost use Rattle.text.specs.pieces.Text.{in_front};
 ghost use Rattle.printed.specs.job_line.Lines.{line_of};
 ghost use Rattle.batch.specs.cutting.Records.{count_of};
@@ -57,9 +57,11 @@ fn finished_line(slots: &mut Slots, which: usize, out: &mut [u8]) -> Option<usiz
 {
     let mut answer = [0u8; 15];
     match slots.collect(which, &mut answer) {
-        Err(Refusal::SlotUnfinished) => None,
-        Err(r) => Some(text::refused_line(u8::from(r), out)),
         Ok(found) => Some(text::found_line(found.measures, &answer[..found.size], out)),
+        Err(r) => match r {
+            Refusal::SlotUnfinished => None,
+            _ => Some(text::refused_line(u8::from(r), out)),
+        },
     }
 }
 
@@ -96,13 +98,14 @@ impl Work {
     {
         let (which, number) = (self.free, self.next);
         let place = cutting::record_at(jobs, number);
-        if let Err(r) = self.slots.post(which, &jobs[place.start..place.end]) {
-            self.pass_over(rt, r);
-            return;
+        match self.slots.post(which, &jobs[place.start..place.end]) {
+            Err(r) => self.pass_over(rt, r),
+            Ok(()) => {
+                self.owners[which] = number as u8;
+                self.next = number + 1;
+                self.free = which + 1;
+            }
         }
-        self.owners[which] = number as u8;
-        self.next = number + 1;
-        self.free = which + 1;
     }
 
     // Collects the answer of the slot that was served, if it is finished, and says it.

@@ -6,5 +6,5 @@ use Rattle.scheduler.specs.states.Calls.{view_state}
 use Rattle.slots.specs.Work.{Kept}
 use Rattle.slots.proofs.run_jobs.Given as goal
 
-abbrev pub invariant-loop-_step : goal.invariant-loop-_step
-invariant-loop-_step g l = ((l.cut.count ≡ count_of l.jobs) × (l.cut.count ≤ 64)) × Kept l.jobs l.work.owners (view_state l.work.slots)
+abbrev pub invariant-loop-step : goal.invariant-loop-step
+invariant-loop-step g l = ((l.cut.count ≡ count_of l.jobs) × (l.cut.count ≤ 64)) × Kept l.jobs l.work.owners (view_state l.work.slots)

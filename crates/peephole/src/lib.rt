@@ -1,7 +1,7 @@
 // Peephole optimization of long gate lists: the call `rewrite` goes through a list with a window of 2 to 4 gates. The gates in a window are
 // made a job for the search; the window yields where the search finds cheaper gates that do the same. The leftmost window that yields is
 // replaced by what was found, and so on until none yields. A caller gets the new number of gates, the list in its own buffer with the bytes
-// freed at the end set to 0; or a refusal code, 32 to 34, with the list as it was.
+// freed at the end set to 0; or a refusal, 32 to 34, with the list as it was.
 #![tactic(auto)]
 
 pub mod listing; // what needs no search: the rules of a list, the job of a window, and a window replaced
@@ -9,21 +9,14 @@ pub mod windows; // definitions and theorems: when a window yields, and what a l
 
 ghost use Rattle.std.specs.Prelude.{◌≡◌, ◌+◌, ◌-◌, ◌≤◌, length, take};
 ghost use Rattle.table.specs.layouts.Layouts.{Width};
+ghost use Rattle.record.specs.Answers.{reply};
 ghost use Rattle.peephole.specs.windows.Windows.{better, rewritten};
 ghost use Rattle.peephole.specs.windows.Listings.{rewrite_of, list_left};
 ghost use Rattle.peephole.specs.windows.Inner.{Still};
-ghost use Rattle.peephole.specs.Answers.{rewritten_answer};
 ghost use Rattle.peephole.specs.Inner.{offered, Scanned};
 
 use crate::windows::Prices;
-use outcomes::Searched;
-
-// The answer: a refusal code, or how many gates the list has now.
-#[derive(Clone, Copy)]
-pub enum Rewritten {
-    Refused(u8),
-    Gates(usize),
-}
+use record::refusal::Refusal;
 
 // What the search found for a window: whether it is cheaper than the window, and its record, whose `len` gates begin at byte 3.
 #[derive(Clone, Copy)]
@@ -54,14 +47,14 @@ fn look_at(wires: usize, prices: Prices, gates: &[u8]) -> Offer
     let end = 12 + listing::value_count(wires);
     let mut bytes = [0u8; 15];
     match search::search(&job[..end], &mut bytes) {
-        Searched::Refused(_) => Offer {
+        Err(_) => Offer {
             cheaper: false,
             len: 0,
             bytes,
         },
-        Searched::Found(size, m) => Offer {
-            cheaper: m.cost < circuit::cost(gates, listing::weights(prices)),
-            len: size - 3,
+        Ok(found) => Offer {
+            cheaper: found.measures.cost < circuit::cost(gates, listing::weights(prices)),
+            len: found.size - 3,
             bytes,
         },
     }
@@ -128,18 +121,15 @@ fn settle(wires: usize, window: usize, prices: Prices, list: &mut [u8]) -> usize
 }
 
 // Makes a list cheaper, a window of gates at a time, and returns its new number of gates. The bytes that it no longer needs become 0.
-pub fn rewrite(wires: u8, window: u8, prices: Prices, list: &mut [u8]) -> Rewritten
-    ensures result_value { rewritten_answer result ≡ rewrite_of wires window prices list.old }
+#[tactic(auto, using(record::proofs::Refusals::refusals), unfolding(crate::specs::windows::Listings::rewrite_of, crate::specs::windows::Listings::list_left))]
+pub fn rewrite(wires: u8, window: u8, prices: Prices, list: &mut [u8]) -> Result<usize, Refusal>
+    ensures result_value { reply result ≡ rewrite_of wires window prices list.old }
     ensures list_after { list.new ≡ list_left wires window prices list.old }
 {
-    let n = logic::wide(wires);
-    let k = logic::wide(window);
-    let size = list.len();
-    let code = listing::rewrite_code(n, k, &list[..size]);
-    if code != 0 {
-        return Rewritten::Refused(code);
-    }
+    let n = wires as usize;
+    let k = window as usize;
+    listing::check_rewrite(n, k, list)?;
     let count = settle(n, k, prices, list);
     listing::clear(list, count);
-    Rewritten::Gates(count)
+    Ok(count)
 }

@@ -23,5 +23,5 @@ long_text job h =
     let e = long_code job h in
     ap printed_closest (by_code job 15 (λ z. omega arith)) ∙ ap refused_text e
 
-pub telling_job : (room : ℕ) → longest_job < room → TellingClosest room
-telling_job room h = told_by closest_text (refused_text 1) longest_job long_text room h
+pub telling_closest : (room : ℕ) → longest_job < room → TellingClosest room
+telling_closest room h = told_by closest_text (refused_text 1) longest_job long_text room h

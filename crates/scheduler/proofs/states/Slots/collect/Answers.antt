@@ -32,18 +32,18 @@ told_slot s h d = let l : length s.args.self.now.states ≡ 8 = search (rules, m
 
 pub tell-told-requires-clause-state_value : goal.tell-told-requires-clause-state_value
 tell-told-requires-clause-state_value c =
-    ap is_finished (told_slot (goal.at.tell-told-requires-clause-state_value c).Start c.in_ok-check_collect.ensures.inside c.index-self-which.result)
+    ap is_finished (told_slot (goal.at.tell-told-requires-clause-state_value c).Start c.in_ok-check_collect.ensures.inside _)
     ∙ c.in_ok-check_collect.ensures.finished
 
 pub returns-clause-answer_value : goal.returns-clause-answer_value
 returns-clause-answer_value c =
-    let h = told_slot (goal.at.returns-clause-answer_value c).Start c.in_ok-check_collect.ensures.inside c.index-self-which.result in
+    let h = told_slot (goal.at.returns-clause-answer_value c).Start c.in_ok-check_collect.ensures.inside _ in
     c.tell-told.ensures.result_value ∙ ap (λ (x : Slot). reported (result_of x)) h
     ∙ ap reported (collect_done (view_state c.args.self.now) c.args.which (length c.args.answer.now) (sym c.in_ok-check_collect.ensures.value)).0
 
 pub returns-clause-by_index : goal.returns-clause-by_index
 returns-clause-by_index c =
-    let h = told_slot (goal.at.returns-clause-by_index c).Start c.in_ok-check_collect.ensures.inside c.index-self-which.result in
+    let h = told_slot (goal.at.returns-clause-by_index c).Start c.in_ok-check_collect.ensures.inside _ in
     λ n e k.
     absurd
     (k
@@ -59,7 +59,7 @@ returns-clause-slots_value c =
 
 pub returns-clause-answer_after : goal.returns-clause-answer_after
 returns-clause-answer_after c =
-    let h = told_slot (goal.at.returns-clause-answer_after c).Start c.in_ok-check_collect.ensures.inside c.index-self-which.result in
+    let h = told_slot (goal.at.returns-clause-answer_after c).Start c.in_ok-check_collect.ensures.inside _ in
     c.tell-told.ensures.answer_after ∙ ap (λ (x : Slot). written (result_of x) c.args.answer.now) h
     ∙ ap (λ (o : Answer Found). written o c.args.answer.now)
     (collect_done (view_state c.args.self.now) c.args.which (length c.args.answer.now) (sym c.in_ok-check_collect.ensures.value)).0

@@ -19,6 +19,6 @@ returns-in_err-i-clause-slots_value_2 c = turn_idle (view_state c.args.self.now)
 pub returns-clause-slots_value_2 : goal.returns-clause-slots_value_2
 returns-clause-slots_value_2 c =
     turn_served (view_state c.args.self.now) c.in_ok-i.i _ _ _ c.in_ok-i.ensures.value
-    (served_slot (goal.at.returns-clause-slots_value_2 c).Start c.in_ok-i.i c.in_ok-i.ensures.upper_bound c.index-self-i.result)
+    (served_slot (goal.at.returns-clause-slots_value_2 c).Start c.in_ok-i.i c.in_ok-i.ensures.upper_bound _)
     c.serve.ensures
     (changed c.args.self.now c.in_ok-i.i _ c.in_ok-i.i)

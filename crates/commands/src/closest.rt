@@ -1,21 +1,10 @@
 // `gazbolk closest`: the circuit within a job's limits that misses the fewest wanted bits.
-ghost use Rattle.std.specs.Prelude.{◌≡◌, suc, ◌≤◌, length};
+ghost use Rattle.std.specs.Prelude.{◌≡◌, ◌≤◌, length};
 ghost use Rattle.text.specs.pieces.Text.{in_front};
-ghost use Rattle.record.specs.JobRules.{longest_job};
-ghost use Rattle.printed.specs.misses.Closeness.{closest_text, TellingClosest};
+ghost use Rattle.printed.specs.misses.Closeness.{closest_text};
 
-use approximate::Nearest;
 use printed::misses;
 use reports::refusal;
-
-// How many bytes of a job decide what is printed: one more than the longest job has.
-pub fn job_room() -> usize
-    ensures value { result ≡ suc longest_job }
-    ensures telling_closest { TellingClosest result }
-    ensures upper_bound { result ≤ 4096 }
-{
-    31
-}
 
 // Searches for the closest circuit of a job and writes what is printed to the start of `out`; returns its length.
 pub fn closest_text(job: &[u8], out: &mut [u8]) -> usize
@@ -26,7 +15,10 @@ pub fn closest_text(job: &[u8], out: &mut [u8]) -> usize
 {
     let mut answer = [0u8; 15];
     match approximate::closest(job, &mut answer) {
-        Nearest::Refused(code) => refusal::refused_text(code, out),
-        Nearest::Found(size, m, k) => misses::put_close(k, m, &answer[..size], out),
+        Err(e) => refusal::refused_text(u8::from(e), out),
+        Ok(nearest) => {
+            let found = nearest.report;
+            misses::put_close(nearest.misses, found.measures, &answer[..found.size], out)
+        }
     }
 }

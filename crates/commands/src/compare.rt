@@ -1,25 +1,14 @@
 // `gazbolk compare`: two jobs that are alike but for one price.
-ghost use Rattle.std.specs.Prelude.{◌≡◌, suc, ◌≤◌, length};
-ghost use Rattle.record.specs.JobRules.{longest_job};
+ghost use Rattle.std.specs.Prelude.{◌≡◌, ◌≤◌, length};
 ghost use Rattle.outcomes.specs.Outcomes.{search_of};
 ghost use Rattle.text.specs.pieces.Text.{in_front};
-ghost use Rattle.printed.specs.differences.Compare.{compare_text, TellingPair};
+ghost use Rattle.printed.specs.differences.Compare.{compare_text};
 ghost use Rattle.printed.specs.differences.Inner.{after_old, both_text};
 
 use circuit::measures::Measures;
-use outcomes::Searched;
 use printed::differences;
 use reports::refusal;
 use sensitivity::alike;
-
-// How many bytes of either job decide what is printed: one more than the longest job has.
-pub fn job_room() -> usize
-    ensures value { result ≡ suc longest_job }
-    ensures telling_pair { TellingPair result }
-    ensures upper_bound { result ≤ 4096 }
-{
-    31
-}
 
 // Searches for the new job's circuit, after the old job's was found, and writes what is printed for both.
 fn put_after(m: Measures, circuit: &[u8], new: &[u8], out: &mut [u8]) -> usize
@@ -31,8 +20,8 @@ fn put_after(m: Measures, circuit: &[u8], new: &[u8], out: &mut [u8]) -> usize
 {
     let mut answer = [0u8; 15];
     match search::search(new, &mut answer) {
-        Searched::Refused(code) => refusal::refused_text(code, out),
-        Searched::Found(size, k) => differences::put_both(m, circuit, k, &answer[..size], out),
+        Err(e) => refusal::refused_text(u8::from(e), out),
+        Ok(found) => differences::put_both(m, circuit, found.measures, &answer[..found.size], out),
     }
 }
 
@@ -46,8 +35,8 @@ fn put_searched(old: &[u8], new: &[u8], out: &mut [u8]) -> usize
 {
     let mut answer = [0u8; 15];
     match search::search(old, &mut answer) {
-        Searched::Refused(code) => refusal::refused_text(code, out),
-        Searched::Found(size, m) => put_after(m, &answer[..size], new, out),
+        Err(e) => refusal::refused_text(u8::from(e), out),
+        Ok(found) => put_after(found.measures, &answer[..found.size], new, out),
     }
 }
 
@@ -58,9 +47,8 @@ pub fn compare_text(old: &[u8], new: &[u8], out: &mut [u8]) -> usize
     ensures upper_bound { result ≤ 256 }
     ensures out_after { out.new ≡ in_front (compare_text old.now new.now) out.old }
 {
-    let code = alike::compare_code(old, new);
-    if code != 0 {
-        return refusal::refused_text(code, out);
+    match alike::check_compare(old, new) {
+        Err(e) => refusal::refused_text(u8::from(e), out),
+        Ok(()) => put_searched(old, new, out),
     }
-    put_searched(old, new, out)
 }

@@ -1,43 +1,45 @@
 // `gazbolk search`, with a library or without one, and `gazbolk batch`.
-ghost use Rattle.std.specs.Prelude.{◌≡◌, ◌<◌, ◌≤◌, length};
-ghost use Rattle.outcomes.specs.Outcomes.{reported, written, searched_answer, size_in};
+ghost use Rattle.std.specs.Prelude.{◌≡◌, ◌<◌, ◌≤◌, length, IfOk};
+ghost use Rattle.record.specs.Answers.{reply};
+ghost use Rattle.outcomes.specs.Outcomes.{reported, written};
 ghost use Rattle.text.specs.pieces.Text.{in_front};
 ghost use Rattle.batch.specs.cutting.Records.{count_of, job_at};
 ghost use Rattle.printed.specs.job_line.Lines.{line_of};
 ghost use Rattle.printed.specs.batch_parts.Parts.{batch_parts, part_at};
-ghost use Rattle.printed.specs.files.Files.{given, finding, search_text};
+ghost use Rattle.printed.specs.files.Files.{lent, finding, search_text};
 
 use crate::program;
 use batch::cutting;
-use outcomes::Searched;
+use outcomes::Reported;
+use record::refusal::Refusal;
 use reports::refusal;
 
-// Searches for a job's circuit, with the library if one is named.
-fn find(job: &[u8], named: bool, library: &[u8], answer: &mut [u8]) -> Searched
-    ensures result_value { searched_answer result
-        ≡ reported (finding job.now (given named library.now) (length answer.old)) }
-    ensures result_bound { size_in result ≤ 15 }
+// Searches for a job's circuit, with the library if one is lent.
+#[tactic(auto, unfolding(printed::specs::files::Files::finding))]
+fn find(job: &[u8], library: Option<&[u8]>, answer: &mut [u8]) -> Result<Reported, Refusal>
+    ensures result_value { reply result
+        ≡ reported (finding job.now (lent library.entry) (length answer.old)) }
+    ensures result_bound { IfOk result (λ found. found.size ≤ 15) }
     ensures answer_after { answer.new
-        ≡ written (finding job.now (given named library.now) (length answer.old)) answer.old }
+        ≡ written (finding job.now (lent library.entry) (length answer.old)) answer.old }
 {
-    if named {
-        library::search_with(job, library, answer)
-    } else {
-        search::search(job, answer)
+    match library {
+        Some(library) => library::search_with(job, library, answer),
+        None => search::search(job, answer),
     }
 }
 
 // Searches for a job's circuit and writes what is printed to the start of `out`; returns its length.
-pub fn search_text(job: &[u8], named: bool, library: &[u8], out: &mut [u8]) -> usize
+pub fn search_text(job: &[u8], library: Option<&[u8]>, out: &mut [u8]) -> usize
     requires { 128 ≤ length out.old }
-    ensures value { result ≡ length (search_text job.now (given named library.now)) }
+    ensures value { result ≡ length (search_text job.now (lent library.entry)) }
     ensures upper_bound { result ≤ 128 }
-    ensures out_after { out.new ≡ in_front (search_text job.now (given named library.now)) out.old }
+    ensures out_after { out.new ≡ in_front (search_text job.now (lent library.entry)) out.old }
 {
     let mut answer = [0u8; 15];
-    match find(job, named, library, &mut answer) {
-        Searched::Refused(code) => refusal::refused_text(code, out),
-        Searched::Found(size, m) => text::found_line(m, &answer[..size], out),
+    match find(job, library, &mut answer) {
+        Err(e) => refusal::refused_text(u8::from(e), out),
+        Ok(found) => text::found_line(found.measures, &answer[..found.size], out),
     }
 }
 
@@ -50,9 +52,7 @@ fn job_line(jobs: &[u8], i: usize, out: &mut [u8]) -> usize
     ensures out_after { out.new ≡ in_front (line_of (job_at jobs.now i)) out.old }
 {
     let place = cutting::record_at(jobs, i);
-    let start = place.start;
-    let end = place.end;
-    program::line(&jobs[start..end], out)
+    program::line(&jobs[place.start..place.end], out)
 }
 
 // Writes part i of what is printed for a batch to the start of `out`; returns its length. It searches for no circuit but that of job i.
@@ -67,6 +67,6 @@ pub fn batch_part(jobs: &[u8], i: usize, out: &mut [u8]) -> usize
     if cut.end == jobs.len() {
         job_line(jobs, i, out)
     } else {
-        refusal::refused_text(26, out)
+        refusal::refused_text(u8::from(Refusal::BatchForm), out)
     }
 }

@@ -12,24 +12,15 @@ use std::str;
 
 // How many words the program was started with, its own name among them.
 pub fn word_count(rt: &impl Env) -> usize {
-    let mut count = 0;
-    while count < usize::MAX {
-        if !is_word(rt, count) {
-            return count;
-        }
-        count += 1;
-    }
-    count
+    (0..usize::MAX)
+        .find(|&i| !is_word(rt, i))
+        .unwrap_or(usize::MAX)
 }
 
 // Whether there is a word of this number. One that is longer than the buffer is there too.
 fn is_word(rt: &impl Env, i: usize) -> bool {
     let mut room = [0u8; 1];
-    match rt.arg(i, &mut room) {
-        Ok(_) => true,
-        Err(FillError::TooLong) => true,
-        Err(FillError::NotPresent) => false,
-    }
+    matches!(rt.arg(i, &mut room), Ok(_) | Err(FillError::TooLong))
 }
 
 // Puts word `i` at the start of a buffer, and answers its length; 0 where it is missing or longer than the buffer. Word 0 is the
@@ -37,22 +28,17 @@ fn is_word(rt: &impl Env, i: usize) -> bool {
 pub fn word(rt: &impl Env, i: usize, buffer: &mut [u8]) -> usize
     ensures { IsPrefixLen result buffer.new }
 {
-    match rt.arg(i, buffer) {
-        Ok(n) => n,
-        Err(_) => 0,
-    }
+    rt.arg(i, buffer).unwrap_or(0)
 }
 
 // Opens a file for reading; `None` where it cannot be opened, or where its name is not UTF-8, as `std` asks of a path.
 pub fn open<R: Files>(rt: &R, name: &[u8]) -> Option<R::File> {
-    match str::from_utf8(name) {
-        Ok(path) => File::open(rt, path).ok(),
-        Err(_) => None,
-    }
+    let path = str::from_utf8(name).ok()?;
+    File::open(rt, path).ok()
 }
 
 // Reads until a buffer is full, the input ends or a read fails, and answers how many bytes it put at the start of the buffer. With an empty
-// buffer it makes no call.
+// buffer it makes no call. This stays a `while` over how much has been read: std's `read_exact` tells nothing of a reader that ends early.
 pub fn read_full<R: Read>(reader: &mut R, buffer: &mut [u8]) -> usize
     ensures count { IsPrefixLen result buffer.new }
     ensures bytes { Consumes (R.remaining reader.old) (R.remaining reader.new) (take result buffer.new) }
@@ -73,8 +59,5 @@ fn read_some<R: Read>(reader: &mut R, buffer: &mut [u8]) -> usize
     ensures count { IsPrefixLen result buffer.new }
     ensures bytes { Consumes (R.remaining reader.old) (R.remaining reader.new) (take result buffer.new) }
 {
-    match reader.read(buffer) {
-        Ok(n) => n,
-        Err(_) => 0,
-    }
+    reader.read(buffer).unwrap_or(0)
 }

@@ -1,7 +1,9 @@
 // The words after a program's name: where a command ends, whether it has the words that it takes, and the files that words name; and the
 // program's usage.
-ghost use Rattle.std.specs.Prelude.{◌≡◌, true, ◌↔◌, ◌<◌, ◌≤◌, min, length};
+ghost use Rattle.std.specs.Prelude.{◌≡◌, ◌↔◌, ◌<◌, ◌≤◌, min, length, Some};
+ghost use Rattle.logic.specs.Words.{bytes};
 ghost use Rattle.gazbolk.specs.arguments.Words.{Asked};
+ghost use Rattle.gazbolk.specs.declared.arguments.Command.TheVariants.{Verify, Search, Batch, Compare, Closest, Rewrite};
 
 use console::output::say;
 use console::{input, output};
@@ -12,7 +14,7 @@ use std::rt::{Env, Files};
 pub fn few(count: usize) -> usize
     ensures { result ≡ min count 1000000 }
 {
-    if count < 1_000_000 { count } else { 1_000_000 }
+    count.min(1_000_000)
 }
 
 // The place of the next `then` after `at`, or the number of words.
@@ -20,28 +22,45 @@ pub fn command_end(rt: &impl Env, at: usize, count: usize) -> usize
     requires { (at ≤ count) × (count ≤ 1000000) }
     ensures { ((at ≤ result) × (result ≤ count)) × (at < count → at < result) }
 {
-    let mut i = at;
-    while i < count {
-        i += 1;
-        if is_then(rt, i) {
-            return i;
-        }
-    }
-    i
+    (at + 1..count).find(|&i| is_then(rt, i)).unwrap_or(count)
 }
 
 fn is_then(rt: &impl Env, i: usize) -> bool {
     let mut word = io::buffer();
     let n = input::word(rt, i, &mut word);
-    check::same(&word[..n], b"then")
+    &word[..n] == b"then".as_slice()
 }
 
-// Whether a command has its name and as many words as it takes.
-pub fn is_asked(word: &[u8], command: &[u8], words: usize, least: usize, most: usize) -> bool
-    ensures { (result ≡ true) ↔ Asked word.now command.now words least most }
+// What the program can be asked to do.
+#[derive(Clone, Copy)]
+pub enum Command {
+    Verify,
+    Search,
+    Batch,
+    Compare,
+    Closest,
+    Rewrite,
+}
+
+// The command of this name, if it has as many words as it takes. The count includes the word before the name; two commands may name a
+// library last.
+pub fn asked(word: &[u8], words: usize) -> Option<Command>
+    ensures verify_asked { (result ≡ Some Verify) ↔ Asked word.now (bytes "verify") words 4 5 }
+    ensures search_asked { (result ≡ Some Search) ↔ Asked word.now (bytes "search") words 3 4 }
+    ensures batch_asked { (result ≡ Some Batch) ↔ Asked word.now (bytes "batch") words 3 3 }
+    ensures compare_asked { (result ≡ Some Compare) ↔ Asked word.now (bytes "compare") words 4 4 }
+    ensures closest_asked { (result ≡ Some Closest) ↔ Asked word.now (bytes "closest") words 3 3 }
+    ensures rewrite_asked { (result ≡ Some Rewrite) ↔ Asked word.now (bytes "rewrite") words 3 3 }
 {
-    let enough = logic::both(least <= words, words <= most);
-    logic::both(enough, check::same(word, command))
+    match (word, words) {
+        (b"verify", 4..=5) => Some(Command::Verify),
+        (b"search", 3..=4) => Some(Command::Search),
+        (b"batch", 3) => Some(Command::Batch),
+        (b"compare", 4) => Some(Command::Compare),
+        (b"closest", 3) => Some(Command::Closest),
+        (b"rewrite", 3) => Some(Command::Rewrite),
+        _ => None,
+    }
 }
 
 // Prints how the program is called.
@@ -159,23 +178,11 @@ fn explain_rewrite(rt: &impl Print) {
     say(rt, b"    NUMBER` and what it means.\n");
 }
 
-// The three files, or what stands for one that no word names, if all are open.
-pub fn all_open<J: Drop, C: Drop, L: Drop>(
-    job: Option<J>,
-    circuit: Option<C>,
-    library: Option<L>,
-) -> Option<(J, C, L)> {
-    match (job, circuit, library) {
-        (Some(job), Some(circuit), Some(library)) => Some((job, circuit, library)),
-        _ => None,
-    }
-}
-
 // Opens the file that word `i` names; where it cannot be read, says so and answers `None`.
 pub fn open<R: Env + Files + Print>(rt: &R, i: usize) -> Option<R::File> {
     let mut name = io::buffer();
     let n = input::word(rt, i, &mut name);
-    let file = readable(input::open(rt, &name[..n]));
+    let file = input::open(rt, &name[..n]).and_then(readable);
     if file.is_none() {
         output::say_unreadable(rt, &name[..n]);
     }
@@ -196,22 +203,16 @@ pub fn open_named<R: Env + Files + Print>(
 }
 
 // An open file, if it can be read. A folder can be opened, but a read of it fails even for no bytes.
-fn readable<F: Read + Drop>(file: Option<F>) -> Option<F> {
-    let mut file = file?;
-    let mut nothing = [0u8; 0];
-    match file.read(&mut nothing) {
-        Ok(_) => Some(file),
-        Err(_) => None,
-    }
+fn readable<F: Read + Drop>(mut file: F) -> Option<F> {
+    file.read(&mut []).ok()?;
+    Some(file)
 }
 
-// Reads the first bytes of a file, at most `room`, and answers how many; none if no file is named.
-pub fn read_part<F: Read + Drop>(file: Option<F>, room: usize, buffer: &mut [u8]) -> usize
+// Reads the first bytes of a file, at most `room`, into a buffer, and answers the part that they fill.
+pub fn read_part<F: Read + Drop>(mut file: F, room: usize, buffer: &mut [u8]) -> &[u8]
     requires { room ≤ length buffer.old }
-    ensures { result ≤ room }
+    ensures { length result.now ≤ room }
 {
-    match file {
-        Some(mut file) => input::read_full(&mut file, &mut buffer[..room]),
-        None => 0,
-    }
+    let n = input::read_full(&mut file, &mut buffer[..room]);
+    &buffer[..n]
 }

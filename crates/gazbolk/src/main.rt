@@ -9,6 +9,7 @@ mod arguments;
 ghost use Rattle.std.specs.Prelude.{◌<◌, ◌≤◌, length};
 ghost use Rattle.printed.specs.batch_parts.Parts.{batch_parts};
 
+use arguments::Command;
 use commands::{closest, compare, rewrite, search_files};
 use console::{input, output};
 use printed::{batch_parts, files, rewriting, verdict};
@@ -41,31 +42,15 @@ fn run_command(rt: &(impl Env + Files + Print), at: usize, count: usize) -> usiz
 fn dispatch(rt: &(impl Env + Files + Print), word: &[u8], at: usize, words: usize)
     requires { at ≤ 1000000 }
 {
-    if arguments::is_asked(word, b"verify", words, 4, 5) {
-        verify(rt, at, words == 5);
-        return;
+    match arguments::asked(word, words) {
+        Some(Command::Verify) => verify(rt, at, words == 5),
+        Some(Command::Search) => search(rt, at, words == 4),
+        Some(Command::Batch) => batch(rt, at),
+        Some(Command::Compare) => compare(rt, at),
+        Some(Command::Closest) => closest(rt, at),
+        Some(Command::Rewrite) => rewrite(rt, at),
+        None => arguments::usage(rt),
     }
-    if arguments::is_asked(word, b"search", words, 3, 4) {
-        search(rt, at, words == 4);
-        return;
-    }
-    if arguments::is_asked(word, b"batch", words, 3, 3) {
-        batch(rt, at);
-        return;
-    }
-    if arguments::is_asked(word, b"compare", words, 4, 4) {
-        compare(rt, at);
-        return;
-    }
-    if arguments::is_asked(word, b"closest", words, 3, 3) {
-        closest(rt, at);
-        return;
-    }
-    if arguments::is_asked(word, b"rewrite", words, 3, 3) {
-        rewrite(rt, at);
-        return;
-    }
-    arguments::usage(rt);
 }
 
 // `gazbolk verify JOB CIRCUIT [LIBRARY]`
@@ -75,7 +60,7 @@ fn verify(rt: &(impl Env + Files + Print), at: usize, named: bool)
     let job = arguments::open(rt, at + 2);
     let circuit = arguments::open(rt, at + 3);
     let library = arguments::open_named(rt, named, at + 4);
-    if let Some((job, circuit, library)) = arguments::all_open(job, circuit, library) {
+    if let (Some(job), Some(circuit), Some(library)) = (job, circuit, library) {
         print_verdict(rt, job, circuit, library);
     }
 }
@@ -86,7 +71,7 @@ fn search(rt: &(impl Env + Files + Print), at: usize, named: bool)
 {
     let job = arguments::open(rt, at + 2);
     let library = arguments::open_named(rt, named, at + 3);
-    if let Some((job, (), library)) = arguments::all_open(job, Some(()), library) {
+    if let (Some(job), Some(library)) = (job, library) {
         print_finding(rt, job, library);
     }
 }
@@ -106,7 +91,7 @@ fn compare(rt: &(impl Env + Files + Print), at: usize)
 {
     let old = arguments::open(rt, at + 2);
     let new = arguments::open(rt, at + 3);
-    if let Some((old, new, ())) = arguments::all_open(old, new, Some(())) {
+    if let (Some(old), Some(new)) = (old, new) {
         print_change(rt, old, new);
     }
 }
@@ -136,44 +121,40 @@ fn print_verdict<F: Read + Drop>(
     circuit_file: F,
     library_file: Option<F>,
 ) {
-    let named = library_file.is_some();
     let mut job = io::buffer();
-    let n = arguments::read_part(Some(job_file), files::job_room(), &mut job);
+    let job = arguments::read_part(job_file, files::job_room(), &mut job);
     let mut library = io::buffer();
-    let k = arguments::read_part(library_file, files::library_room(), &mut library);
+    let library = read_library(library_file, &mut library);
     let mut circuit = io::large_buffer();
-    let m = arguments::read_part(Some(circuit_file), files::circuit_room(), &mut circuit);
+    let circuit = arguments::read_part(circuit_file, files::circuit_room(), &mut circuit);
     let mut out = [0u8; 128];
-    let size = verdict::verify_text(&job[..n], named, &library[..k], &circuit[..m], &mut out);
+    let size = verdict::verify_text(job, library, circuit, &mut out);
     output::say(rt, &out[..size]);
+}
+
+// Reads the library, if a file of one is open.
+fn read_library<F: Read + Drop>(file: Option<F>, buffer: &mut [u8; 4096]) -> Option<&[u8]> {
+    file.map(|file| arguments::read_part(file, files::library_room(), buffer))
 }
 
 // Searches for the circuit of the job in an open file, and prints what is found.
 fn print_finding<F: Read + Drop>(rt: &impl Print, job_file: F, library_file: Option<F>) {
-    let named = library_file.is_some();
     let mut job = io::buffer();
-    let n = arguments::read_part(Some(job_file), files::job_room(), &mut job);
+    let job = arguments::read_part(job_file, files::job_room(), &mut job);
     let mut library = io::buffer();
-    let k = arguments::read_part(library_file, files::library_room(), &mut library);
+    let library = read_library(library_file, &mut library);
     let mut out = [0u8; 128];
-    let size = search_files::search_text(&job[..n], named, &library[..k], &mut out);
+    let size = search_files::search_text(job, library, &mut out);
     output::say(rt, &out[..size]);
 }
 
-// Searches for the circuits of the batch in an open file, and prints what is found.
+// Searches for the circuits of the batch in an open file, and prints what is found. Each part is printed before the next job is searched,
+// so that a long batch shows how far it is.
 fn print_batch(rt: &impl Print, file: impl Read + Drop) {
     let mut jobs = io::buffer();
-    let n = arguments::read_part(Some(file), batch_parts::batch_room(), &mut jobs);
-    print_parts(rt, &jobs[..n]);
-}
-
-// Prints each part before the next job is searched, so that a long batch shows how far it is.
-fn print_parts(rt: &impl Print, jobs: &[u8]) {
-    let count = batch_parts::batch_parts(jobs);
-    let mut i = 0;
-    while i < count {
+    let jobs = arguments::read_part(file, batch_parts::batch_room(), &mut jobs);
+    for i in 0..batch_parts::batch_parts(jobs) {
         print_part(rt, jobs, i);
-        i += 1;
     }
 }
 
@@ -188,20 +169,20 @@ fn print_part(rt: &impl Print, jobs: &[u8], i: usize)
 // Compares the jobs in two open files, and prints the difference and both circuits.
 fn print_change<F: Read + Drop>(rt: &impl Print, old_file: F, new_file: F) {
     let mut old = io::buffer();
-    let n = arguments::read_part(Some(old_file), compare::job_room(), &mut old);
+    let old = arguments::read_part(old_file, files::job_room(), &mut old);
     let mut new = io::buffer();
-    let m = arguments::read_part(Some(new_file), compare::job_room(), &mut new);
+    let new = arguments::read_part(new_file, files::job_room(), &mut new);
     let mut out = [0u8; 256];
-    let size = compare::compare_text(&old[..n], &new[..m], &mut out);
+    let size = compare::compare_text(old, new, &mut out);
     output::say(rt, &out[..size]);
 }
 
 // Searches for the closest circuit of the job in an open file, and prints it.
 fn print_closest(rt: &impl Print, job_file: impl Read + Drop) {
     let mut job = io::buffer();
-    let n = arguments::read_part(Some(job_file), closest::job_room(), &mut job);
+    let job = arguments::read_part(job_file, files::job_room(), &mut job);
     let mut out = [0u8; 128];
-    let size = closest::closest_text(&job[..n], &mut out);
+    let size = closest::closest_text(job, &mut out);
     output::say(rt, &out[..size]);
 }
 
@@ -210,7 +191,7 @@ fn print_rewriting(rt: &impl Print, mut file: impl Read + Drop) {
     let mut head = [0u8; 5];
     let n = input::read_full(&mut file, &mut head);
     let mut list = io::large_buffer();
-    let m = arguments::read_part(Some(file), rewriting::list_room(), &mut list);
+    let m = input::read_full(&mut file, &mut list[..rewriting::list_room()]);
     let mut out = [0u8; 8300];
     let size = rewrite::rewrite_text(&head[..n], &mut list[..m], &mut out);
     output::say(rt, &out[..size]);

@@ -1,2 +1,3 @@
 pub mod Short
 pub mod Samples
+pub mod Told

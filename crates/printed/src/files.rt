@@ -1,12 +1,18 @@
-// How many bytes of each file decide what `gazbolk search` and `gazbolk verify` print.
+// How many bytes of each file decide what `main` and `gazbolk` print of it.
 ghost use Rattle.std.specs.Prelude.{◌≡◌, suc, ◌≤◌};
 ghost use Rattle.record.specs.JobRules.{longest_job};
+ghost use Rattle.printed.specs.job_line.Lines.{Telling};
 ghost use Rattle.printed.specs.files.Files.{TellingJob, TellingCircuit, TellingLibrary};
+ghost use Rattle.printed.specs.misses.Closeness.{TellingClosest};
+ghost use Rattle.printed.specs.differences.Compare.{TellingPair};
 
-// How many bytes of a job decide it: one more than the longest job has.
+// How many bytes of a job decide whatever is printed of it: one more than the longest job has.
 pub fn job_room() -> usize
     ensures value { result ≡ suc longest_job }
+    ensures telling { Telling result }
     ensures telling_job { TellingJob result }
+    ensures telling_closest { TellingClosest result }
+    ensures telling_pair { TellingPair result }
     ensures upper_bound { result ≤ 4096 }
 {
     31

@@ -1,8 +1,7 @@
 // What `main` and `gazbolk` print, as definitions over the bytes of the files that they read. The code here writes what needs no search,
 // and says how many bytes of a file decide what is printed, so that no more are read. `commands` has the code that searches.
 //
-// - `job_line`: the line that `main` prints for a job;
-// - `files`: what `gazbolk search` and `gazbolk verify` print;
+// - `files`: how many bytes of each file decide what is printed of it;
 // - `verdict`: the code of `gazbolk verify`;
 // - `batch_parts`: what `gazbolk batch` prints, in parts;
 // - `differences`: the lines of `gazbolk compare`;
@@ -13,7 +12,6 @@
 pub mod batch_parts;
 pub mod differences;
 pub mod files;
-pub mod job_line;
 pub mod misses;
 pub mod rewriting;
 pub mod verdict;

@@ -23,13 +23,9 @@ pub fn list_cost(list: &[u8], prices: Prices) -> usize
     ensures { result ≡ cost_at prices list.now }
 {
     let weights = listing::weights(prices);
-    let mut sum = 0;
-    let mut i = 0;
-    while i < list.len() {
-        sum += logic::wide(circuit::weight(weights, list[i]));
-        i += 1;
-    }
-    sum
+    list.iter()
+        .map(|&b| usize::from(circuit::weight(weights, b)))
+        .sum()
 }
 
 // Writes a number below 10,000,000, and answers the index after it.

@@ -7,26 +7,18 @@ ghost use Rattle.revlib.specs.Grammar.{is_in, different, declared, line_ok, wire
 pub fn is_in(x: u8, list: &[u8]) -> bool
     ensures { result ≡ is_in x list.now }
 {
-    let mut i = 0;
-    while i < list.len() {
-        if list[i] == x {
-            return true;
-        }
-        i += 1;
-    }
-    false
+    list.contains(&x)
 }
 
 // Whether no letter stands twice.
+#[tactic(auto, using(crate::proofs::gate_words::Letters::different_done))]
 pub fn different(list: &[u8]) -> bool
     ensures { result ≡ different list.now }
 {
-    let mut i = 0;
-    while i < list.len() {
-        if is_in(list[i], &list[i + 1..]) {
+    for (i, &x) in list.iter().enumerate() {
+        if is_in(x, &list[i + 1..]) {
             return false;
         }
-        i += 1;
     }
     true
 }
@@ -36,39 +28,25 @@ fn wire_of(letters: &[u8], x: u8) -> usize
     ensures value { result ≡ wire_of letters.now x }
     ensures upper_bound { result ≤ length letters.now }
 {
-    let mut i = 0;
-    while i < letters.len() {
-        if letters[i] == x {
-            return i;
-        }
-        i += 1;
-    }
-    i
+    letters
+        .iter()
+        .position(|&y| y == x)
+        .unwrap_or(letters.len())
 }
 
 // Whether every letter of a line is declared.
 fn all_declared(letters: &[u8], line: &[u8]) -> bool
     ensures { result ≡ all_of (declared letters.now) line.now }
 {
-    let mut i = 0;
-    while i < line.len() {
-        if !is_in(line[i], letters) {
-            return false;
-        }
-        i += 1;
-    }
-    true
+    line.iter().all(|&x| is_in(x, letters))
 }
 
 // Whether a line has one to three letters, all different and declared.
+#[tactic(auto, unfolding(revlib::specs::Grammar::line_ok))]
 pub fn line_ok(letters: &[u8], line: &[u8]) -> bool
     ensures { result ≡ line_ok letters.now line.now }
 {
-    let count = logic::both(1 <= line.len(), line.len() <= 3);
-    logic::both(
-        count,
-        logic::both(different(line), all_declared(letters, line)),
-    )
+    (1..=3).contains(&line.len()) && different(line) && all_declared(letters, line)
 }
 
 // The bit of a control in the mask of a gate byte.
@@ -86,10 +64,12 @@ pub fn gate_byte(letters: &[u8], line: &[u8]) -> u8
     requires in_bounds { (1 ≤ length line.now) × (length line.now ≤ 3) }
     ensures { result ≡ gate_byte letters.now line.now }
 {
-    match line.len() {
-        1 => (32 * wire_of(letters, line[0])) as u8,
-        2 => (control(letters, line[0]) + 32 * wire_of(letters, line[1])) as u8,
-        _ => (control(letters, line[0])
-            + (control(letters, line[1]) + 32 * wire_of(letters, line[2]))) as u8,
+    let [controls @ .., target] = line else {
+        return 0;
+    };
+    let mut byte = 32 * wire_of(letters, *target);
+    for &x in controls {
+        byte += control(letters, x);
     }
+    byte as u8
 }

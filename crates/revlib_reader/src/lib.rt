@@ -12,84 +12,51 @@ pub mod heading;
 pub mod keywords;
 pub mod reader;
 
-ghost use Rattle.std.specs.Prelude.{◌≡◌, ◌-◌, ◌≤◌, ◌<◌, length};
+ghost use Rattle.std.specs.Prelude.{◌≡◌, ◌≤◌, length, IfOk};
+ghost use Rattle.record.specs.Answers.{reply};
 ghost use Rattle.revlib.specs.Reading.{parse, outcome_of, read_of, size_of, written};
-ghost use Rattle.revlib_reader.specs.Answers.{parsed_answer, parsed_size};
 ghost use Rattle.revlib_reader.specs.Inner.{CircuitIs};
 
-use record::writing;
+use crate::reader::Text;
+use record::refusal::Refusal;
+use record::{refusal, writing};
 use table::layouts;
 
-// What `read` answers: a refusal code, or the length of the record written.
-#[derive(Clone, Copy)]
-pub enum Parsed {
-    Refused(u8),
-    Record(usize),
-}
-
-// What a text says: the code 0 and the data wires, ancillas and gates of a circuit, or a refusal code.
+// What a text says: the data wires, ancillas and gates of a circuit.
 #[derive(Clone, Copy)]
 struct Circuit {
-    code: u8,
     n: usize,
     m: usize,
     count: usize,
     gates: [u8; 12],
 }
 
-// A text that is refused with this code.
-fn broken(code: u8) -> Circuit
-    ensures { result.code ≡ code }
-{
-    Circuit {
-        code,
-        n: 0,
-        m: 0,
-        count: 0,
-        gates: [0u8; 12],
-    }
-}
-
 // Reads a text of at most 4,096 bytes.
-fn parse(text: &[u8]) -> Circuit
+fn parse(text: &[u8]) -> Result<Circuit, Refusal>
     requires { length text.now ≤ 4096 }
     ensures { CircuitIs (outcome_of (parse text.now)) result }
 {
-    let t = reader::scan(text);
-    if !t.sound {
-        return broken(22);
-    }
-    if 12 < t.count {
-        return broken(23);
-    }
-    let head = t.head;
-    let gates = t.gates;
-    Circuit {
-        code: 0,
+    let Text { head, body } = reader::scan(text).ok_or(Refusal::TextForm)?;
+    refusal::kept(body.count <= 12, Refusal::TextGates)?;
+    let gates = body.gates;
+    Ok(Circuit {
         n: head.wires - head.ancillas,
         m: head.ancillas,
-        count: t.count,
+        count: body.count,
         gates,
-    }
+    })
 }
 
-// Reads a `.real` text into a circuit record with plain layout, written from byte 0 of `answer`.
-pub fn read(text: &[u8], answer: &mut [u8]) -> Parsed
-    ensures result_value { parsed_answer result ≡ size_of (read_of text.now (length answer.old)) }
-    ensures result_bound { parsed_size result ≤ 15 }
+// Reads a `.real` text into a circuit record with plain layout, written from byte 0 of `answer`, and returns its length.
+#[tactic(auto, unfolding(revlib::specs::Reading::read_of))]
+pub fn read(text: &[u8], answer: &mut [u8]) -> Result<usize, Refusal>
+    ensures result_value { reply result ≡ size_of (read_of text.now (length answer.old)) }
+    ensures result_bound { IfOk result (λ size. size ≤ 15) }
     ensures answer_after { answer.new ≡ written (read_of text.now (length answer.old)) answer.old }
 {
-    if answer.len() < 15 {
-        return Parsed::Refused(13);
-    }
-    if 4096 < text.len() {
-        return Parsed::Refused(22);
-    }
-    let c = parse(text);
-    if c.code != 0 {
-        return Parsed::Refused(c.code);
-    }
+    refusal::kept(15 <= answer.len(), Refusal::AnswerRoom)?;
+    refusal::kept(text.len() <= 4096, Refusal::TextForm)?;
+    let c = parse(text)?;
     let gates = c.gates;
-    let size = writing::write_record(c.n, c.m, false, layouts::plain(c.n), gates, c.count, answer);
-    Parsed::Record(size)
+    Ok(writing::write_record(c.n, c.m, false, layouts::plain(c.n), gates, c.count, answer))
 }

@@ -2,9 +2,9 @@
 use mathlib.Core.Path.{◌≡◌, refl, sym, ap, ◌∙◌}
 use mathlib.Core.Bool.{true}
 use mathlib.Core.List.{List, map, ◌++◌}
-use Prim.Native.Nat.{ℕ, ◌+◌, ◌≤◌, ◌<◌}
+use Prim.Native.Nat.{ℕ, ◌+◌, ◌≤◌}
 use native.Mathlib.Omega.{arith}
-use borrow.Author.Tests.{le-leb, lt-leb, ne_eqb}
+use borrow.Author.Tests.{le-leb}
 use lib.ListN.{length, length-append}
 use Rattle.logic.specs.Lists.{all_of}
 use Rattle.gate.specs.Gates.{lawful}
@@ -12,11 +12,12 @@ use Rattle.gate.proofs.Tables.{all_widen}
 use Rattle.record.specs.job_fields.Jobs.{data_wires, ancillas, wires}
 use Rattle.record.specs.circuit_rules.CircuitRules.{circuit_code}
 use Rattle.record.specs.circuit_fields.Circuits.{gates}
-use Rattle.record.proofs.circuit_rules.Sound.{circuit_wires_within}
+use Rattle.record.proofs.circuit_rules.Sound.{sound_circuit, circuit_wires_within}
 use Rattle.text.specs.pieces.Writing.{Wrote}
-use Rattle.text.proofs.pieces.Pieces.{line_size, line_in_front}
+use Rattle.text.proofs.pieces.Pieces.{line_in_front}
+use Rattle.revlib_writer.proofs.gates.Lines.{over_length}
 use Rattle.revlib.specs.Grammar.{body, render}
-use Rattle.revlib.specs.Writing.{Reply, line_for, describe, text_of, text_code, write_of, length_of, filled}
+use Rattle.revlib.specs.Writing.{line_for, describe, text_of, text_code, write_of, filled}
 use Rattle.revlib.proofs.RoundTrip.{text_rules, lawful_gates, text_short}
 use Rattle.revlib_writer.specs.heading.Heading.{heading_for}
 
@@ -40,24 +41,14 @@ module _ (c : List ℕ) where
   pub text_small : text_code c ≡ 0 → length (text_of c) ≤ 193
   text_small h = let p = text_rules c h in text_short c p.0 p.1.0
 
-  module _ (out : List ℕ) where
-    pub not_written : (code : ℕ) → code ≡ text_code c → (code ≡ 0 → ⊥) → write_of c (length out) ≡ Reply.refused code
+  -- the text stands at the start of the buffer
+  module _ (out : List ℕ) (kept : text_code c ≡ 0) (h : length (text_of c) ≤ length out) (new : List ℕ) (size : ℕ) (w : Wrote out 0 (text_of c) new size) where
+    pub wrote : new ≡ filled (write_of c (length out)) out
     unfolding write_of
-    not_written code e n = rw (← e, ne_eqb code 0 n)
+    wrote = line_in_front w h ∙ rw (kept, le-leb (length (text_of c)) (length out) h)
 
-    module _ (kept : text_code c ≡ 0) where
-      pub no_room : (needed : ℕ) → needed ≡ length (text_of c) → length out < needed → write_of c (length out) ≡ Reply.short 13 needed
-      unfolding write_of
-      no_room needed e h = rw (kept, ← e, lt-leb needed (length out) h)
+-- a circuit that has a text is sound, and its text short
+pub ruleset texts = (code_sound, text_small)
 
-      fits : length (text_of c) ≤ length out → write_of c (length out) ≡ Reply.answered (text_of c)
-      unfolding write_of
-      fits h = rw (kept, le-leb (length (text_of c)) (length out) h)
-
-      -- the text stands at the start of the buffer, and its length is returned
-      module _ (h : length (text_of c) ≤ length out) (new : List ℕ) (size : ℕ) (w : Wrote out 0 (text_of c) new size) where
-        pub told : Reply.answered size ≡ length_of (write_of c (length out))
-        told = rw (fits h, line_size w)
-
-        pub wrote : new ≡ filled (write_of c (length out)) out
-        wrote = line_in_front w h ∙ rw (fits h)
+-- what a text that is written stands on
+pub ruleset written = (sound_circuit, code_sound, lawful_five, text_length, over_length)

@@ -14,7 +14,7 @@ fn letter(w: usize) -> u8
     requires { w < 5 }
     ensures { result ≡ letter w }
 {
-    97 + w as u8
+    b'a' + w as u8
 }
 
 // The length of a gate's line.
@@ -22,9 +22,7 @@ fn line_size(b: u8) -> usize
     ensures value { result ≡ length (gate_line (line_for b)) }
     ensures upper_bound { result ≤ 11 }
 {
-    let g = gate::decode(b);
-    let k = g.kind;
-    match k {
+    match gate::decode(b).kind {
         Kind::Not => 5,
         Kind::Cnot(_) => 7,
         Kind::Toffoli(_, _) => 9,
@@ -33,18 +31,27 @@ fn line_size(b: u8) -> usize
 }
 
 // The length of the gate lines and `.end`.
+#[tactic(auto, using(crate::proofs::gates::Lines::sizes))]
 pub fn body_size(gates: &[u8]) -> usize
     requires { length gates.now ≤ 12 }
     ensures value { result ≡ length (body (map line_for gates.now)) }
     ensures upper_bound { result ≤ 137 }
 {
-    let mut size = 5;
-    let mut i = 0;
-    while i < gates.len() {
-        size += line_size(gates[i]);
-        i += 1;
+    5 + gates.iter().map(|&b| line_size(b)).sum::<usize>()
+}
+
+// Writes the gate line of these letters at index `i`, and returns the next index.
+fn put_letters(out: &mut [u8], i: usize, letters: &[u8]) -> usize
+    requires few { length letters.now ≤ 3 }
+    requires in_bounds { i + length (gate_line letters.now) ≤ length out.old }
+    ensures { Wrote out.old i (gate_line letters.now) out.new result }
+{
+    let digit = b'0' + letters.len() as u8;
+    let mut at = pieces::put_text(out, i, &[b't', digit]);
+    for &x in letters {
+        at = pieces::put_text(out, at, &[b' ', x]);
     }
-    size
+    pieces::put_text(out, at, b"\n")
 }
 
 // Writes a gate's line at index `i`, and returns the next index.
@@ -55,22 +62,12 @@ fn put_line(out: &mut [u8], i: usize, b: u8) -> usize
 {
     let g = gate::decode(b);
     let t = letter(g.target);
-    let k = g.kind;
-    match k {
-        Kind::Not => {
-            let word = [b't', b'1', b' ', t, b'\n'];
-            pieces::put_text(out, i, &word)
-        }
-        Kind::Cnot(a) => {
-            let word = [b't', b'2', b' ', letter(a), b' ', t, b'\n'];
-            pieces::put_text(out, i, &word)
-        }
-        Kind::Toffoli(a, d) => {
-            let word = [b't', b'3', b' ', letter(a), b' ', letter(d), b' ', t, b'\n'];
-            pieces::put_text(out, i, &word)
-        }
-        // Not reached: the gate has at most two controls.
-        Kind::Cccnot(_, _, _) => i,
+    match g.kind {
+        Kind::Not => put_letters(out, i, &[t]),
+        Kind::Cnot(a) => put_letters(out, i, &[letter(a), t]),
+        Kind::Toffoli(a, d) => put_letters(out, i, &[letter(a), letter(d), t]),
+        // A lawful gate has at most two controls here.
+        Kind::Cccnot(_, _, _) => unreachable!(),
     }
 }
 
@@ -81,10 +78,8 @@ pub fn put_body(out: &mut [u8], i: usize, gates: &[u8]) -> usize
     ensures { Wrote out.old i (body (map line_for gates.now)) out.new result }
 {
     let mut at = i;
-    let mut k = 0;
-    while k < gates.len() {
-        at = put_line(out, at, gates[k]);
-        k += 1;
+    for &b in gates {
+        at = put_line(out, at, b);
     }
     pieces::put_text(out, at, b".end\n")
 }

@@ -1,11 +1,14 @@
-// All eight slots: one of them read or replaced, the one to be served next, and the rules of `post` and `collect`.
-ghost use Rattle.std.specs.Prelude.{◌≡◌, ◌%◌};
-ghost use Rattle.scheduler.specs.slot.View.{view_slot};
-ghost use Rattle.scheduler.specs.states.States.{start_state, slot_at, with_slot, post_code, served_by, collect_code};
+// All eight slots: the one to be served next, and the rules of `post` and `collect`.
+ghost use Rattle.std.specs.Prelude.{◌≡◌, true, ◌<◌, ◌≤◌, IfSome, IfOk};
+ghost use Rattle.record.specs.Answers.{code_of};
+ghost use Rattle.record.specs.JobRules.{job_code};
+ghost use Rattle.scheduler.specs.slot.Slots.{is_finished};
+ghost use Rattle.scheduler.specs.states.States.{start_state, slot_at, post_code, served_by, collect_code};
 ghost use Rattle.scheduler.specs.states.Calls.{view_state, service_answer};
 
-use crate::slot;
 use crate::slot::SlotState;
+use record::refusal;
+use record::refusal::Refusal;
 
 // Eight slots, and which of them was served last.
 #[derive(Clone, Copy)]
@@ -14,82 +17,55 @@ pub struct Slots {
     pub last: usize,
 }
 
-// The answer of `post`: a refusal code, or that the job was accepted.
-#[derive(Clone, Copy)]
-pub enum Posting {
-    Refused(u8),
-    Accepted,
-}
-
-// The answer of `turn`: the slot that it served, or that no slot was working.
-#[derive(Clone, Copy)]
-pub enum Service {
-    Slot(usize),
-    Idle,
-}
-
 // Eight empty slots; slot 7 counts as served last.
 pub fn start() -> Slots
     ensures { view_state result ≡ start_state }
 {
-    let state = slot::vacant();
+    let state = SlotState::vacant();
     Slots {
         states: [state; 8],
         last: 7,
     }
 }
 
-// Slot `i`, or an empty one where there is no slot `i`.
-pub fn slot_at(slots: Slots, i: usize) -> SlotState
-    ensures { view_slot result ≡ slot_at (view_state slots) i }
-{
-    let states = slots.states;
-    if i < 8 { states[i] } else { slot::vacant() }
-}
-
-// The slots with `state` as slot `i`, and `last` as the slot served last.
-pub fn with_slot(slots: Slots, i: usize, state: SlotState, last: usize) -> Slots
-    ensures { view_state result ≡ with_slot (view_state slots) i (view_slot state) (last % 8) }
-{
-    let mut states = slots.states;
-    if 8 <= i {
-        return Slots { states, last };
+impl Slots {
+    // The rules of posting: there is such a slot, it is empty, the job is well-formed.
+    #[tactic(auto, using(crate::proofs::states::Views::slot_in), unfolding(crate::specs::states::States::post_code))]
+    pub fn check_post(&self, which: usize, job: &[u8]) -> Result<(), Refusal>
+        ensures value { code_of result ≡ post_code (view_state self.now) which job.now }
+        ensures inside { IfOk result (λ _. which < 8) }
+        ensures sound { IfOk result (λ _. job_code job.now ≡ 0) }
+    {
+        refusal::kept(which <= 7, Refusal::NoSlot)?;
+        refusal::kept(self.states[which].is_empty(), Refusal::SlotTaken)?;
+        record::check_job(job)
     }
-    states[i] = state;
-    Slots { states, last }
-}
 
-// The code of the first rule of posting that is broken, or 0: there is such a slot, it is empty, the job is well-formed.
-pub fn post_code(slots: Slots, which: usize, job: &[u8]) -> u8
-    ensures { result ≡ post_code (view_state slots) which job.now }
-{
-    let free = slot::is_empty(slot_at(slots, which));
-    let occupied = logic::rule(free, 36, 0);
-    let unsound = record::job_code(job);
-    logic::rule(which <= 7, 35, logic::and_then(occupied, unsound))
-}
+    // The rules of collecting: there is such a slot, it is finished, the answer has room.
+    #[tactic(auto, using(crate::proofs::states::Views::slot_in), unfolding(crate::specs::states::States::collect_code))]
+    pub fn check_collect(&self, which: usize, room: usize) -> Result<(), Refusal>
+        ensures value { code_of result ≡ collect_code (view_state self.now) which room }
+        ensures inside { IfOk result (λ _. which < 8) }
+        ensures finished { IfOk result (λ _. is_finished (slot_at (view_state self.now) which) ≡ true) }
+        ensures room { IfOk result (λ _. 15 ≤ room) }
+    {
+        refusal::kept(which <= 7, Refusal::NoSlot)?;
+        refusal::kept(self.states[which].is_finished(), Refusal::SlotUnfinished)?;
+        refusal::kept(15 <= room, Refusal::AnswerRoom)
+    }
 
-// The next working slot after the one served last, 7 followed by 0.
-pub fn next_working(slots: Slots) -> Service
-    ensures { service_answer result ≡ served_by (view_state slots) }
-{
-    let mut at = slots.last % 8;
-    let mut ahead: usize = 8;
-    while 0 < ahead {
-        at = (at + 1) % 8;
-        if slot::is_working(slot_at(slots, at)) {
-            return Service::Slot(at);
+    // The next working slot after the one served last, 7 followed by 0.
+    #[tactic(auto, using(crate::proofs::states::Serving::looking))]
+    pub fn next_working(&self) -> Option<usize>
+        ensures value { service_answer result ≡ served_by (view_state self.now) }
+        ensures upper_bound { IfSome result (λ i. i < 8) }
+    {
+        for step in 0..8 {
+            let at = (self.last % 8 + step + 1) % 8;
+            if self.states[at].is_working() {
+                return Some(at);
+            }
         }
-        ahead -= 1;
+        None
     }
-    Service::Idle
-}
-
-// The code of the first rule of collecting that is broken, or 0: there is such a slot, it is finished, the answer has room.
-pub fn collect_code(slots: Slots, which: usize, room: usize) -> u8
-    ensures { result ≡ collect_code (view_state slots) which room }
-{
-    let finished = slot::is_finished(slot_at(slots, which));
-    let rest = logic::rule(finished, 37, logic::rule(15 <= room, 13, 0));
-    logic::rule(which <= 7, 35, rest)
 }

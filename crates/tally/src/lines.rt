@@ -12,10 +12,11 @@ const PLACES: [usize; 16] = [
 ];
 
 // The place of printed cell `i`, or 0 where there is none.
+#[tactic(auto, unfolding(crate::specs::lines::Lines::places))]
 fn place(i: usize) -> usize
     ensures { result ≡ get_or places i 0 }
 {
-    if i < 16 { PLACES[i] } else { 0 }
+    PLACES.get(i).copied().unwrap_or(0)
 }
 
 // Writes a word and a number from index `i` on.
@@ -56,7 +57,7 @@ fn put_cell(out: &mut [u8], cells: &[u8], place: usize) -> usize
     requires { 64 ≤ length out.old }
     ensures { Wrote out.old 0 (cell_line cells.now place) out.new result }
 {
-    let cell = logic::wide(logic::at(cells, place));
+    let cell = usize::from(logic::at(cells, place));
     let a = put_counted(out, 0, b"cell ", place);
     let b = put_counted(out, a, b": ", cell);
     pieces::put(out, b, b'\n')

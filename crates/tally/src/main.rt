@@ -10,7 +10,6 @@ mod counts;
 mod lines;
 
 use console::output::{say, say_count, say_number};
-use sizes::Filled;
 
 fn main(rt: HostRuntime) {
     let mut room = [200u8; 40321];
@@ -47,8 +46,8 @@ fn tell_front(rt: &impl Print, room: &[u8], n: usize) {
 fn fill(rt: &impl Print, cells: &mut [u8]) {
     say_number(rt, cells.len() as u64);
     match sizes::fill(cells) {
-        Filled::Refused(code) => say_count(rt, b" refused ", code as u64),
-        Filled::Whole => say(rt, b" filled"),
+        Err(e) => say_count(rt, b" refused ", u64::from(u8::from(e))),
+        Ok(()) => say(rt, b" filled"),
     }
     say(rt, b"\n");
 }
@@ -61,10 +60,8 @@ fn tell_untouched(rt: &impl Print, room: &[u8]) {
 
 // Says the 26 lines of the cells, and whether the figures differ from those published.
 fn tell_sheet(rt: &impl Print, cells: &[u8]) {
-    let mut i = 0;
-    while i < 26 {
+    for i in 0..26 {
         tell_line(rt, cells, i);
-        i += 1;
     }
     if !counts::agrees(cells) {
         say(rt, b"other figures were published\n");

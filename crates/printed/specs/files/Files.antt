@@ -1,5 +1,8 @@
 -- What `gazbolk verify` and `gazbolk search` print for the bytes of a job, of a circuit and of a library, if one is named.
 use Rattle.std.specs.Prelude.{◌≡◌, Bool, List, [], ◌++◌, ℕ, take}
+use Rattle.std.specs.Prelude as Lent
+use Rattle.std.specs.Prelude.{Some, None}
+use denote.Ref.{Bor}
 use Rattle.std.proofs.Math.Option.{Option, none, some}
 use Rattle.logic.specs.Rules.{pick}
 use Rattle.logic.specs.Answers.{Answer, refused, answered}
@@ -22,9 +25,10 @@ is_text file = starts (bytes ".version") file
 unfoldable pub circuit_in : List ℕ → Answer (List ℕ)
 circuit_in file = pick (is_text file) (read_of file 15) (answered file)
 
--- the library, where one is named
-abbrev pub given : Bool → List ℕ → Option (List ℕ)
-given named library = pick named (some library) none
+-- the bytes of the library, where one is lent
+abbrev pub lent : Lent.Option (Bor (List ℕ)) → Option (List ℕ)
+lent None = none
+lent (Some library) = some library.now
 
 -- verifying a circuit, with a library or without one
 unfoldable pub verdict : List ℕ → Option (List ℕ) → List ℕ → Answer Measures

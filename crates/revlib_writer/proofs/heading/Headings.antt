@@ -1,31 +1,10 @@
--- The headings for three and four data wires: their length, and their text spelled out.
-use mathlib.Core.Path.{◌≡◌, refl}
-use mathlib.Core.Logic.{inl, inr}
-use Prim.Native.Nat.{ℕ, ◌+◌, ◌*◌, ◌≤◌}
-use native.Mathlib.Omega.{arith}
-use lib.ListN.{length}
+-- The headings for three and four data wires, without an ancilla and with one, spelled out.
+use Rattle.std.proofs.Common.{◌≡◌, refl}
 use Rattle.logic.specs.Words.{bytes}
-use Rattle.table.specs.layouts.Layouts.{Width}
 use Rattle.revlib.specs.Grammar.{spaced, numvars_line, variables_line, constants_line, constants_word, heading}
 use Rattle.revlib.specs.Writing.{letters_for, constants_for}
 use Rattle.revlib_writer.specs.heading.Heading.{heading_for}
 
--- the length of a heading, without an ancilla and with one
-pub heading_bare : (n : ℕ) → Width n → 42 + 2 * n ≡ length (heading_for n 0)
-unfolding heading_for heading numvars_line variables_line spaced constants_line letters_for constants_for
-heading_bare n (inl e) = rw e
-heading_bare n (inr e) = rw e
-
-pub heading_more : (n : ℕ) → Width n → 57 + 3 * n ≡ length (heading_for n 1)
-unfolding heading_for heading numvars_line variables_line spaced constants_line constants_word letters_for constants_for
-heading_more n (inl e) = rw e
-heading_more n (inr e) = rw e
-
-pub few : (n : ℕ) → Width n → n ≤ 4
-few n (inl e) = omega arith
-few n (inr e) = omega arith
-
--- the four headings, spelled out
 pub three_bare : heading_for 3 0 ≡ bytes ".version 2.0\n.numvars 3\n.variables a b c\n.begin\n"
 unfolding heading_for heading numvars_line variables_line spaced constants_line letters_for constants_for
 three_bare = refl

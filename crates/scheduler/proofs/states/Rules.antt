@@ -1,16 +1,19 @@
--- The codes of posting and collecting, put together from their parts and taken apart again; and the two ways out of each call.
-use mathlib.Core.Path.{◌≡◌, refl, sym, ap, ◌∙◌}
-use mathlib.Core.Bool.{Bool, true, false, true≢false}
+-- The codes of posting and collecting, by their parts; and the two ways out of each call.
+use mathlib.Core.Path.{◌≡◌, sym}
+use mathlib.Core.Bool.{true, true≢false}
 use mathlib.Core.List.{List}
 use mathlib.Core.Option.{none, some}
 use Prim.Native.Nat.{ℕ, ◌≤◌}
 use native.Mathlib.Omega.{arith}
 use borrow.Author.Tests.{leb-true, eq-eqb, ne_eqb}
 use lib.Dec.{leb, lit<}
-use Rattle.logic.specs.Rules.{rule, and_then}
+use Rattle.logic.specs.Rules.{rule}
 use Rattle.logic.specs.Answers.{refused, answered}
 use Rattle.logic.proofs.Chain.{rule_kept}
+use Rattle.record.specs.Answers.{number}
 use Rattle.record.specs.JobRules.{job_code}
+use Rattle.record.specs.declared.refusal.Refusal.{Refusal}
+use Rattle.record.proofs.Refusals.{number_pos}
 use Rattle.outcomes.specs.Outcomes.{reported}
 use Rattle.scheduler.specs.slot.Slots.{Slot, empty, working, finished, is_empty, is_finished, begun, result_of}
 use Rattle.scheduler.specs.states.States.{State, slot_at, with_slot, post_code, post_of, after_post, collect_code, collect_of, after_collect}
@@ -25,22 +28,6 @@ only_none empty h n e = absurd (true≢false (sym h))
 only_none (working job left held) h n e = absurd (true≢false (sym h))
 only_none (finished job none) h n e = cc
 only_none (finished job (some c)) h n e = absurd (answered_never _ n e)
-
-module _ (s : State) (i : ℕ) (x : Slot) (here : x ≡ slot_at s i) where
-  pub post_rules : (job : List ℕ) (free : Bool) (occupied unsound both all : ℕ) → free ≡ is_empty x → occupied ≡ rule free 36 0 → unsound ≡ job_code job
-      → both ≡ and_then occupied unsound → all ≡ rule (leb i 7) 35 both → all ≡ post_code s i job
-  unfolding post_code
-  post_rules job free occupied unsound both all e₁ e₂ e₃ e₄ e₅ =
-      e₅ ∙ ap (rule (leb i 7) 35) (e₄ ∙ rw (e₂, e₃, e₁, here) (by_empty (is_empty (slot_at s i))))
-    where
-      by_empty : (t : Bool) → and_then (rule t 36 0) (job_code job) ≡ rule t 36 (job_code job)
-      by_empty true = refl
-      by_empty false = refl
-
-  pub collect_rules : (room : ℕ) (done : Bool) (short rest all : ℕ) → done ≡ is_finished x → short ≡ rule (leb 15 room) 13 0 → rest ≡ rule done 37 short
-      → all ≡ rule (leb i 7) 35 rest → all ≡ collect_code s i room
-  unfolding collect_code
-  collect_rules room done short rest all e₁ e₂ e₃ e₄ = rw (e₄, e₃, e₂, e₁, here)
 
 module _ (s : State) (i : ℕ) (job : List ℕ) where
   pub post_parts : post_code s i job ≡ 0 → (i ≤ 7) × ((is_empty (slot_at s i) ≡ true) × (job_code job ≡ 0))
@@ -73,3 +60,11 @@ module _ (s : State) (i room : ℕ) where
   pub collect_done : collect_code s i room ≡ 0 → (result_of (slot_at s i) ≡ collect_of s i room) × (with_slot s i empty s.last ≡ after_collect s i room)
   unfolding collect_of after_collect
   collect_done h = let e = eq-eqb (collect_code s i room) 0 h in (rw e, rw e)
+
+-- a refusal is the code of the first rule broken
+module _ (s : State) (i : ℕ) (r : Refusal) where
+  pub post_by : (job : List ℕ) → number r ≡ post_code s i job → (refused (number r) ≡ post_of s i job) × (s ≡ after_post s i job)
+  post_by job h = let p = post_refused s i job (λ z. omega (arith, number_pos r)) in (rw h p.0, p.1)
+
+  pub collect_by : (room : ℕ) → number r ≡ collect_code s i room → (refused (number r) ≡ collect_of s i room) × (s ≡ after_collect s i room)
+  collect_by room h = let p = collect_refused s i room (λ z. omega (arith, number_pos r)) in (rw h p.0, p.1)

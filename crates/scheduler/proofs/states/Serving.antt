@@ -3,10 +3,11 @@ use mathlib.Core.Path.{◌≡◌, refl, sym, ap, ap₂, ◌∙◌}
 use mathlib.Core.Bool.{Bool, true, false}
 use mathlib.Core.List.{List}
 use mathlib.Core.Option.{none, some, none-ne-some}
-use Prim.Native.Nat.{ℕ, zero, suc, ◌-◌, ◌<◌, ◌≤◌, ◌%◌}
+use Prim.Native.Nat.{ℕ, zero, suc, ◌+◌, ◌-◌, ◌<◌, ◌≤◌, ◌%◌}
 use native.Mathlib.Omega.{arith}
 use lib.ListN.{get_or}
 use Rattle.logic.specs.Rules.{pick}
+use Rattle.scheduler.proofs.states.Views.{slot_in}
 use Rattle.scheduler.specs.slot.Slots.{Slot, empty, is_working, tried}
 use Rattle.scheduler.specs.states.States.{State, slot_at, with_slot, following, next_working, served_by, after_serving, after_turn}
 
@@ -25,6 +26,22 @@ module _ (slots : List Slot) (i : ℕ) where
   unfolding next_working
   next_none zero h = refl
   next_none (suc n) h = absurd (omega arith)
+
+-- the slot that comes `step` slots after the one served last
+module _ (slots : List Slot) (last step : ℕ) (more : step < 8) where
+  pub found_here : is_working (get_or slots ((last % 8 + step + 1) % 8) empty) ≡ true
+      → some ((last % 8 + step + 1) % 8) ≡ next_working slots ((last % 8 + step) % 8) (8 - step)
+  found_here h =
+      let k : ((last % 8 + step) % 8 + 1) % 8 ≡ (last % 8 + step + 1) % 8 = omega arith in
+      rw (← k) (next_here slots ((last % 8 + step) % 8) (8 - step) (omega arith) (rw k h))
+
+  pub found_later : is_working (get_or slots ((last % 8 + step + 1) % 8) empty) ≡ false
+      → next_working slots ((last % 8 + (step + 1)) % 8) (8 - (step + 1)) ≡ next_working slots ((last % 8 + step) % 8) (8 - step)
+  found_later h =
+      let k : ((last % 8 + step) % 8 + 1) % 8 ≡ (last % 8 + step + 1) % 8 = omega arith in
+      let a : (last % 8 + (step + 1)) % 8 ≡ ((last % 8 + step) % 8 + 1) % 8 = omega arith in
+      let n : 8 - (step + 1) ≡ 8 - step - 1 = omega arith in
+      rw (a, n) (next_on slots ((last % 8 + step) % 8) (8 - step) (omega arith) (rw k h))
 
 -- a slot that is found is one of the eight, and is working
 pub next_is : (slots : List Slot) (i n j : ℕ) → next_working slots i n ≡ some j → (j < 8) × (is_working (get_or slots j empty) ≡ true)
@@ -52,3 +69,5 @@ unfolding after_turn
 turn_served s j x y t e here new made =
     let k : j % 8 ≡ j = let h = (served_is s j (sym e)).0 in omega arith in
     made ∙ ap₂ (λ (y : Slot) (n : ℕ). with_slot s j y n) (new ∙ ap tried here) k ∙ ap (after_serving s) e
+
+pub ruleset looking = (slot_in, found_here, found_later, next_none)

@@ -1,12 +1,11 @@
 -- One step of the odometer that goes through the candidates: its digits, and what is left after the step. No public contract cites this.
-use Rattle.std.specs.Prelude.{Bool, List, [], ◌∷◌, ℕ, ◌+◌, leb, ltb}
+use Rattle.std.specs.Prelude.{Bool, List, [], ◌∷◌, ℕ, ◌+◌, leb, ltb, Option, Some, None}
 use Rattle.logic.specs.Rules.{pick}
 use Rattle.logic.specs.Lists.{all_of}
 use Rattle.problem.specs.order.Choices.{Choice}
 use Rattle.problem.specs.Problems.{Problem}
 use Rattle.scheduler.specs.candidates.Left.{current, after, digits_at, left_at}
 use Rattle.scheduler.specs.declared.candidates.Place.{Place}
-use Rattle.scheduler.specs.declared.candidates.Next.{Next}
 
 -- a digit is the index of a gate among n gates; this one is at the last gate
 abbrev pub at_last : ℕ → ℕ → Bool
@@ -33,5 +32,6 @@ abbrev pub after_at : Problem → Place → List Choice
 after_at P at = after P (digits_at at) at.layout
 
 -- the candidates that are left after a step
-abbrev pub remaining : Problem → Next → List Choice
-remaining P next = pick next.done [] (left_at P next.place)
+abbrev pub remaining : Problem → Option Place → List Choice
+remaining P None = []
+remaining P (Some next) = left_at P next

@@ -7,25 +7,26 @@ use Rattle.problem.specs.order.View.{view}
 use Rattle.outcomes.specs.Outcomes.{problem_of}
 use Rattle.scheduler.specs.candidates.Left.{left_at}
 use Rattle.scheduler.specs.declared.slot.SlotState.{SlotState}
+use Rattle.scheduler.specs.declared.slot.Stage.{Stage}
 use Rattle.scheduler.specs.slot.Slots.{Slot, empty, working, finished}
 
 -- the bytes of its job
 abbrev pub job_in : SlotState → List ℕ
 job_in s = take s.size s.job
 
--- its fields fit one another: its job is well-formed, and both its lists have at most twelve gates
+-- its fields fit one another: its job is well-formed, and its list has at most twelve gates
 unfoldable pub sound_of : SlotState → Bool
-sound_of s = both (leb s.size 30) (both (eqb (job_code (job_in s)) 0) (both (leb s.at.len 12) (leb s.best.len 12)))
+sound_of s = both (leb s.size 30) (both (eqb (job_code (job_in s)) 0) (leb s.at.len 12))
 
--- 1 for a working slot, 2 for a finished one, anything else for an empty one
-unfoldable pub stage_of : SlotState → ℕ
-stage_of s = pick (sound_of s) s.status 0
+-- its stage, where they do
+unfoldable pub stage_of : SlotState → Stage
+stage_of s = pick (sound_of s) s.stage Stage.Empty
 
 -- the candidates left to a working slot are those from its place on
-abbrev pub view_stage : ℕ → SlotState → Slot
-view_stage stage s =
-    pick (eqb stage 1) (working (job_in s) (left_at (problem_of (job_in s)) s.at) (view s.best))
-    (pick (eqb stage 2) (finished (job_in s) (view s.best)) empty)
+abbrev pub view_stage : Stage → SlotState → Slot
+view_stage Stage.Empty s = empty
+view_stage Stage.Working s = working (job_in s) (left_at (problem_of (job_in s)) s.at) (view s.best)
+view_stage Stage.Finished s = finished (job_in s) (view s.best)
 
 unfoldable pub view_slot : SlotState → Slot
 view_slot s = view_stage (stage_of s) s

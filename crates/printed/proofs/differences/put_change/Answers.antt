@@ -10,13 +10,6 @@ use Rattle.text.proofs.pieces.Pieces.{more, decimal_short}
 use Rattle.printed.specs.differences.Differences.{change_line}
 use Rattle.printed.proofs.differences.Short.{sign_short}
 use Rattle.printed.proofs.differences.put_change.Goals as goal
-use Rattle.printed.proofs.differences.put_change.Goals.{After-slice_known-5-1}
-
--- all of it, as one piece
-whole : (c : After-slice_known-5-1) → Wrote c.args.out.now 0 (change_line (to_z w32 (of_z w32 c.args.difference))) c.put.new.out c.put.result
-unfolding change_line
-whole c =
-    rw (← c.distance.ensures) (more c.put_text-a.ensures (more c.put_sign-b.ensures (more c.put_decimal-c.ensures c.put.ensures)))
 
 pub put_decimal-c-requires : goal.put_decimal-c-requires
 put_decimal-c-requires c = omega (arith, sign_short (to_z w32 (of_z w32 c.args.difference)))
@@ -25,6 +18,7 @@ pub put-requires : goal.put-requires
 put-requires c = omega (arith, sign_short (to_z w32 (of_z w32 c.args.difference)), decimal_short c.distance.result)
 
 pub returns : goal.returns
+unfolding change_line
 returns c =
-    subst (λ (z : ℤ). Wrote c.args.out.now 0 (change_line z) c.put.new.out c.put.result)
-    (to_z-of_z w32 c.args.difference c.ranges.difference) (whole (goal.at.returns c).After-slice_known-5-1)
+    subst (λ (z : ℤ). Wrote c.args.out.now 0 (change_line z) c.put.new.out c.put.result) (to_z-of_z w32 c.args.difference c.ranges.difference)
+    (rw (← c.distance.ensures) (more c.put_text-a.ensures (more c.put_sign-b.ensures (more c.put_decimal-c.ensures c.put.ensures))))

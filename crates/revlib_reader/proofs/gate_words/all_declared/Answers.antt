@@ -1,20 +1,11 @@
-use mathlib.Core.Path.{sym, ◌∙◌}
-use native.Mathlib.Omega.{arith}
-use Rattle.logic.proofs.Fold.{all_stop, all_step, all_end}
+use Rattle.std.proofs.Common.{rules, tests, ◌∙◌}
+use Rattle.std.proofs.lemmas.Iterator.{YieldsList-from_slice}
+use Rattle.std.proofs.lemmas.Iterator.Search.{all_from_yields_List}
+use Rattle.logic.proofs.Chains.{list_all_is_all_of}
 use Rattle.revlib.specs.Grammar.{declared}
 use Rattle.revlib_reader.proofs.gate_words.all_declared.Goals as goal
 
-pub returns-then-not-is_in : goal.returns-then-not-is_in
-returns-then-not-is_in c =
-    all_stop (declared c.args.letters.now) c.args.line.now c.loop-i.i 0 c.loop-i.invariant.1 (omega arith)
-    (sym c.is_in.ensures ∙ c.if-not-is_in.true)
-
-pub loop-i-preserved : goal.loop-i-preserved
-loop-i-preserved c = (
-  omega arith,
-  all_step (declared c.args.letters.now) c.args.line.now c.loop-i.i 0 c.loop-i.invariant.1 (omega arith)
-      (sym c.is_in.ensures ∙ c.if-not-is_in.false),
-)
-
 pub returns : goal.returns
-returns c = all_end (declared c.args.letters.now) c.args.line.now c.loop-i.i 0 c.loop-i.invariant.1 (omega arith)
+returns c =
+    all_from_yields_List (declared c.args.letters.now) _ _ _ c.all.ensures.ran (YieldsList-from_slice c.args.line.now cc) (λ x b q k. search (rules, tests))
+    ∙ list_all_is_all_of _ _

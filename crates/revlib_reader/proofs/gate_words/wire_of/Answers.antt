@@ -1,15 +1,12 @@
-use native.Mathlib.Omega.{arith}
-use borrow.Author.Tests.{eq-eqb, ne_eqb}
-use Rattle.revlib_reader.proofs.gate_words.Loops.{wire_here, wire_later, wire_done}
+use Rattle.std.proofs.Common.{rules, tests, ◌∙◌, ap, eqb, length, unwrap_or, Option, ℕ}
+use Rattle.std.proofs.lemmas.Iterator.{YieldsList-from_slice}
+use Rattle.std.proofs.lemmas.Iterator.Search.{position_from_yields_List}
+use Rattle.revlib_reader.proofs.gate_words.Letters.{wire_found}
 use Rattle.revlib_reader.proofs.gate_words.wire_of.Goals as goal
 
-pub returns-then-letters-i-clause-value : goal.returns-then-letters-i-clause-value
-returns-then-letters-i-clause-value c = let e = c.loop-i.invariant.1 in omega (arith, wire_here c.args.letters.now c.loop-i.i c.args.x (omega arith) (eq-eqb _ _ c.if-letters-i.true))
-
-pub loop-i-preserved : goal.loop-i-preserved
-loop-i-preserved c =
-    let e = c.loop-i.invariant.1 in
-    (omega arith, omega (arith, wire_later c.args.letters.now c.loop-i.i c.args.x (omega arith) (ne_eqb _ _ c.if-letters-i.false)))
-
 pub returns-clause-value : goal.returns-clause-value
-returns-clause-value c = let e = c.loop-i.invariant.1 in omega (arith, wire_done c.args.letters.now c.loop-i.i (omega arith) c.args.x)
+returns-clause-value c =
+    c.unwrap_or.ensures
+    ∙ ap (λ (o : Option ℕ). unwrap_or o (length c.args.letters.now))
+    (position_from_yields_List (λ y. eqb y c.args.x) _ _ _ c.position.ensures.ran (YieldsList-from_slice c.args.letters.now cc) (λ x b q k. search (rules, tests)))
+    ∙ wire_found c.args.letters.now c.args.x

@@ -1,22 +1,20 @@
-use mathlib.Core.Path.{◌≡◌, ap}
-use mathlib.Core.List.{map}
-use Prim.Native.Nat.{◌+◌, ◌*◌, ◌≤◌, ◌-◌}
-use native.Mathlib.Omega.{arith}
-use borrow.Author.Rules.{rules}
-use lib.ListN.{length, drop}
-use Rattle.revlib.specs.Grammar.{body}
+-- The sum is that of the lines' lengths.
+use Rattle.std.proofs.Common.{◌≡◌, length, sum_by, rules, tests, arith}
+use Rattle.std.proofs.lemmas.Iterator.{YieldsList-from_slice, YieldsList-from_map}
+use Rattle.std.proofs.lemmas.Iterator.Consumers.{sum_by_from_yields_List}
+use Rattle.revlib.specs.Grammar.{gate_line}
 use Rattle.revlib.specs.Writing.{line_for}
-use Rattle.revlib_writer.proofs.gates.Lines.{body_size, body_last}
+use Rattle.revlib_writer.proofs.gates.Lines.{lines_few}
 use Rattle.revlib_writer.proofs.gates.body_size.Goals as goal
+use Rattle.revlib_writer.proofs.gates.body_size.Goals.{After-sum}
 
-pub loop-i-preserved : goal.loop-i-preserved
-loop-i-preserved c =
-    let e = c.loop-i.invariant.1.1 in
-    let s = c.line_size-size.ensures.value in
-    let h = c.line_size-size.ensures.upper_bound in
-    (omega arith, (omega arith, omega (arith, body_size c.args.gates.now c.loop-i.i (omega arith))))
+summed : (s : After-sum) → s.sum.result ≡ sum_by (λ b. length (gate_line (line_for b))) s.args.gates.now
+summed s =
+    sum_by_from_yields_List (λ b. length (gate_line (line_for b))) s.args.gates.now s.map.result _ s.sum.ensures.ran
+    (YieldsList-from_map _ _ (YieldsList-from_slice s.args.gates.now cc) s.map.ensures.closure (λ x r q k. search (rules, tests)))
 
-pub returns-clause-value : goal.returns-clause-value
-returns-clause-value c =
-    let e = c.loop-i.invariant.1.1 in
-    let k = c.requires in omega (arith, ap length (body_last c.args.gates.now c.loop-i.i (omega arith)))
+pub overflow_add-result : goal.overflow_add-result
+overflow_add-result c = let n = c.requires in omega (arith, summed (goal.at.overflow_add-result c).After-sum, lines_few c.args.gates.now)
+
+pub returns-clause-upper_bound : goal.returns-clause-upper_bound
+returns-clause-upper_bound c = let n = c.requires in omega (arith, summed (goal.at.returns-clause-upper_bound c).After-sum, lines_few c.args.gates.now)

@@ -17,11 +17,11 @@ put-requires c =
       c.put_counted-a.ensures.size,
       c.put_counted-b.ensures.size,
       counted_short (bytes "cell ") c.args.place,
-      counted_short (bytes ": ") c.wide-cell.result,
+      counted_short (bytes ": ") c.from-cell.result,
     )
 
 pub returns : goal.returns
 unfolding cell_line
 returns c =
-    let held = c.wide-cell.ensures ∙ c.at.ensures in
+    let held = c.from-cell.ensures ∙ c.at.ensures in
     rw (← held) (more c.put_counted-a.ensures (more c.put_counted-b.ensures c.put.ensures))

@@ -7,22 +7,21 @@ use Rattle.tally.specs.lines.Lines.{line_at}
 use Rattle.tally.proofs.lines.Short.{line_short}
 use Rattle.tally.proofs.lines.put_line.Goals as goal
 
-pub returns-then-i-lt9-clause-wrote : goal.returns-then-i-lt9-clause-wrote
+pub returns-then-i-lt9 : goal.returns-then-i-lt9
 unfolding line_at
-returns-then-i-lt9-clause-wrote c = let w : Wrote c.args.out.now 0 (line_at c.args.cells.now c.args.i) c.put_gates.new.out c.put_gates.result = rw (lt-ltb c.args.i 9 (omega arith)) c.put_gates.ensures in w
-
-pub returns-then-i-lt9-clause-upper_bound : goal.returns-then-i-lt9-clause-upper_bound
-unfolding line_at
-returns-then-i-lt9-clause-upper_bound c = let w : Wrote c.args.out.now 0 (line_at c.args.cells.now c.args.i) c.put_gates.new.out c.put_gates.result = rw (lt-ltb c.args.i 9 (omega arith)) c.put_gates.ensures in omega (arith, line_size w, line_short c.args.cells.now c.args.i)
+returns-then-i-lt9 c =
+    let w : Wrote c.args.out.now 0 (line_at c.args.cells.now c.args.i) c.put_gates.new.out c.put_gates.result
+    = rw (lt-ltb c.args.i 9 (omega arith)) c.put_gates.ensures in
+    record { wrote = w; upper_bound = omega (arith, line_size w, line_short c.args.cells.now c.args.i) }
 
 pub returns-then-i-eq9-clause-wrote : goal.returns-then-i-eq9-clause-wrote
 unfolding line_at
-returns-then-i-eq9-clause-wrote c = let w : Wrote c.args.out.now 0 (line_at c.args.cells.now c.args.i) c.put_number.new.out c.put_number.result = rw (le-ltb c.args.i 9 (omega arith), eq-eqb c.args.i 9 (omega arith), ← c.count.ensures) c.put_number.ensures.wrote in w
+returns-then-i-eq9-clause-wrote c =
+    rw (le-ltb c.args.i 9 (omega arith), eq-eqb c.args.i 9 (omega arith), ← c.count.ensures) c.put_number.ensures.wrote
 
-pub returns-clause-wrote : goal.returns-clause-wrote
+pub returns : goal.returns
 unfolding line_at
-returns-clause-wrote c = let w : Wrote c.args.out.now 0 (line_at c.args.cells.now c.args.i) c.put_cell.new.out c.put_cell.result = rw (le-ltb c.args.i 9 (omega arith), ne_eqb c.args.i 9 (λ e. omega arith), ← c.place.ensures) c.put_cell.ensures in w
-
-pub returns-clause-upper_bound : goal.returns-clause-upper_bound
-unfolding line_at
-returns-clause-upper_bound c = let w : Wrote c.args.out.now 0 (line_at c.args.cells.now c.args.i) c.put_cell.new.out c.put_cell.result = rw (le-ltb c.args.i 9 (omega arith), ne_eqb c.args.i 9 (λ e. omega arith), ← c.place.ensures) c.put_cell.ensures in omega (arith, line_size w, line_short c.args.cells.now c.args.i)
+returns c =
+    let w : Wrote c.args.out.now 0 (line_at c.args.cells.now c.args.i) c.put_cell.new.out c.put_cell.result
+    = rw (le-ltb c.args.i 9 (omega arith), ne_eqb c.args.i 9 (λ e. omega arith), ← c.place.ensures) c.put_cell.ensures in
+    record { wrote = w; upper_bound = omega (arith, line_size w, line_short c.args.cells.now c.args.i) }

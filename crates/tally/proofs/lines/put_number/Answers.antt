@@ -9,16 +9,9 @@ use Rattle.tally.proofs.lines.put_number.Goals as goal
 pub put-requires : goal.put-requires
 put-requires c = omega (arith, counted_short c.args.word.now c.args.n)
 
-pub returns-clause-wrote : goal.returns-clause-wrote
+pub returns : goal.returns
 unfolding number_line
-returns-clause-wrote c =
+returns c =
     let w : Wrote c.args.out.now 0 (number_line c.args.word.now c.args.n) c.put.new.out c.put.result
     = more c.put_counted-a.ensures c.put.ensures in
-    let h = number_short c.args.word.now c.args.n c.requires.word_len_bound in w
-
-pub returns-clause-upper_bound : goal.returns-clause-upper_bound
-unfolding number_line
-returns-clause-upper_bound c =
-    let w : Wrote c.args.out.now 0 (number_line c.args.word.now c.args.n) c.put.new.out c.put.result
-    = more c.put_counted-a.ensures c.put.ensures in
-    let h = number_short c.args.word.now c.args.n c.requires.word_len_bound in omega (arith, line_size w)
+    record { wrote = w; upper_bound = omega (arith, line_size w, number_short c.args.word.now c.args.n c.requires.word_len_bound) }

@@ -1,6 +1,0 @@
-use mathlib.Core.Path.{refl}
-use Rattle.scheduler.proofs.slot.Slots.{none_there}
-use Rattle.scheduler.proofs.slot.vacant.Goals as goal
-
-pub returns : goal.returns
-returns c = none_there _ refl

@@ -1,9 +1,0 @@
--- The loop writes within the list, whose length stays.
-use Rattle.std.proofs.Common.{length, ◌-◌, ◌≡◌}
-use Rattle.vectors.proofs.call_lines.repeat.Given as goal
-
-abbrev pub invariant-loop-i : goal.invariant-loop-i
-invariant-loop-i l = length l.list ≡ length l.initial.list
-
-abbrev pub decreases-loop-i : goal.decreases-loop-i
-decreases-loop-i l = length l.initial.list - l.i

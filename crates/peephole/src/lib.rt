@@ -121,7 +121,7 @@ fn settle(wires: usize, window: usize, prices: Prices, list: &mut [u8]) -> usize
 }
 
 // Makes a list cheaper, a window of gates at a time, and returns its new number of gates. The bytes that it no longer needs become 0.
-#[tactic(auto, using(record::proofs::Refusals::refusals), unfolding(crate::specs::windows::Listings::rewrite_of, crate::specs::windows::Listings::list_left))]
+#[tactic(auto, using(record::proofs::Refusals::refusals), unfolding(crate::specs::windows::Listings::rewrite_of))]
 pub fn rewrite(wires: u8, window: u8, prices: Prices, list: &mut [u8]) -> Result<usize, Refusal>
     ensures result_value { reply result ≡ rewrite_of wires window prices list.old }
     ensures list_after { list.new ≡ list_left wires window prices list.old }

@@ -1,10 +1,14 @@
 -- A rule broken, or the list settled and what it no longer needs cleared.
-use mathlib.Core.Path.{◌≡◌, sym}
+use mathlib.Core.Path.{sym}
 use native.Mathlib.Omega.{arith}
-use Rattle.peephole.specs.windows.Listings.{rewrite_code}
+use Rattle.record.proofs.Refusals.{number_pos}
 use Rattle.peephole.proofs.windows.Promises.{code_sound}
-use Rattle.peephole.proofs.windows.Calls.{finishing}
+use Rattle.peephole.proofs.windows.Calls.{refusing, finishing}
 use Rattle.peephole.proofs.rewrite.Goals as goal
+
+pub returns-in_err-check_rewrite-clause-list_after : goal.returns-in_err-check_rewrite-clause-list_after
+returns-in_err-check_rewrite-clause-list_after c =
+    (refusing c.args.wires c.args.window c.args.prices c.args.list.now (λ z. omega (arith, number_pos, c.in_err-check_rewrite.ensures, z))).1
 
 pub settle-count-requires-clause-width : goal.settle-count-requires-clause-width
 settle-count-requires-clause-width c = (code_sound c.args.wires c.args.window c.args.list.now (sym c.in_ok-check_rewrite.ensures)).width

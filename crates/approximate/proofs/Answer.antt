@@ -1,8 +1,7 @@
 -- For the proof of `closest`: the search's answer for the first choice that misses the fewest bits, with its misses, is the answer defined.
 use mathlib.Core.Path.{◌≡◌, refl, sym, ap, ◌∙◌}
-use mathlib.Core.Bool.{Bool, true, false}
 use mathlib.Core.List.{List}
-use mathlib.Core.Option.{Option, some}
+use mathlib.Core.Option.{some}
 use Prim.Native.Nat.{ℕ}
 use borrow.Author.Tests.{ne_eqb}
 use lib.ListN.{take}
@@ -16,7 +15,6 @@ use Rattle.record.specs.job_fields.Jobs.{data_wires, rows, price_of, duration_of
 use Rattle.circuit.specs.declared.measures.Measures.{Measures}
 use Rattle.circuit.specs.measures.Measures.{measures_of}
 use Rattle.problem.specs.declared.order.Best.{Best}
-use Rattle.problem.specs.order.Choices.{Choice}
 use Rattle.problem.specs.order.View.{choice, view}
 use Rattle.near_misses.specs.misses.Misses.{missed_in}
 use Rattle.near_misses.proofs.misses.Fewest.{closest_misses}

@@ -3,7 +3,6 @@ ghost use Rattle.std.specs.Prelude.{◌≡◌, ◌≤◌, length};
 ghost use Rattle.text.specs.pieces.Text.{in_front};
 ghost use Rattle.printed.specs.misses.Closeness.{closest_text};
 
-use approximate::Nearest;
 use printed::misses;
 use reports::refusal;
 
@@ -16,7 +15,10 @@ pub fn closest_text(job: &[u8], out: &mut [u8]) -> usize
 {
     let mut answer = [0u8; 15];
     match approximate::closest(job, &mut answer) {
-        Nearest::Refused(code) => refusal::refused_text(code, out),
-        Nearest::Found(size, m, k) => misses::put_close(k, m, &answer[..size], out),
+        Err(e) => refusal::refused_text(u8::from(e), out),
+        Ok(nearest) => {
+            let found = nearest.report;
+            misses::put_close(nearest.misses, found.measures, &answer[..found.size], out)
+        }
     }
 }

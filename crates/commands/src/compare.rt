@@ -6,7 +6,6 @@ ghost use Rattle.printed.specs.differences.Compare.{compare_text};
 ghost use Rattle.printed.specs.differences.Inner.{after_old, both_text};
 
 use circuit::measures::Measures;
-use outcomes::Searched;
 use printed::differences;
 use reports::refusal;
 use sensitivity::alike;
@@ -21,8 +20,8 @@ fn put_after(m: Measures, circuit: &[u8], new: &[u8], out: &mut [u8]) -> usize
 {
     let mut answer = [0u8; 15];
     match search::search(new, &mut answer) {
-        Searched::Refused(code) => refusal::refused_text(code, out),
-        Searched::Found(size, k) => differences::put_both(m, circuit, k, &answer[..size], out),
+        Err(e) => refusal::refused_text(u8::from(e), out),
+        Ok(found) => differences::put_both(m, circuit, found.measures, &answer[..found.size], out),
     }
 }
 
@@ -36,8 +35,8 @@ fn put_searched(old: &[u8], new: &[u8], out: &mut [u8]) -> usize
 {
     let mut answer = [0u8; 15];
     match search::search(old, &mut answer) {
-        Searched::Refused(code) => refusal::refused_text(code, out),
-        Searched::Found(size, m) => put_after(m, &answer[..size], new, out),
+        Err(e) => refusal::refused_text(u8::from(e), out),
+        Ok(found) => put_after(found.measures, &answer[..found.size], new, out),
     }
 }
 
@@ -48,9 +47,8 @@ pub fn compare_text(old: &[u8], new: &[u8], out: &mut [u8]) -> usize
     ensures upper_bound { result ≤ 256 }
     ensures out_after { out.new ≡ in_front (compare_text old.now new.now) out.old }
 {
-    let code = alike::compare_code(old, new);
-    if code != 0 {
-        return refusal::refused_text(code, out);
+    match alike::check_compare(old, new) {
+        Err(e) => refusal::refused_text(u8::from(e), out),
+        Ok(()) => put_searched(old, new, out),
     }
-    put_searched(old, new, out)
 }

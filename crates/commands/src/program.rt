@@ -5,7 +5,6 @@ ghost use Rattle.text.specs.pieces.Text.{in_front};
 ghost use Rattle.printed.specs.job_line.Lines.{line_of};
 
 use console::{input, output};
-use outcomes::Searched;
 use printed::files;
 use std::io::Read;
 
@@ -18,16 +17,15 @@ pub fn line(job: &[u8], out: &mut [u8]) -> usize
 {
     let mut answer = [0u8; 15];
     match search::search(job, &mut answer) {
-        Searched::Refused(code) => text::refused_line(code, out),
-        Searched::Found(size, m) => text::found_line(m, &answer[..size], out),
+        Err(e) => text::refused_line(u8::from(e), out),
+        Ok(found) => text::found_line(found.measures, &answer[..found.size], out),
     }
 }
 
 // Reads one job from what is open, standard input in `main`, and prints its line.
 pub fn answer(rt: &impl Print, reader: &mut impl Read) {
     let mut job = io::buffer();
-    let room = files::job_room();
-    let n = input::read_full(reader, &mut job[..room]);
+    let n = input::read_full(reader, &mut job[..files::job_room()]);
     let mut out = [0u8; 64];
     let size = line(&job[..n], &mut out);
     output::say(rt, &out[..size]);

@@ -4,7 +4,6 @@ ghost use Rattle.text.specs.pieces.Text.{in_front};
 ghost use Rattle.peephole.specs.windows.Listings.{list_left};
 ghost use Rattle.printed.specs.rewriting.Rewriting.{wires_in, window_in, prices_in, rewrite_text};
 
-use peephole::Rewritten;
 use printed::rewriting;
 use reports::refusal;
 
@@ -24,7 +23,7 @@ pub fn rewrite_text(head: &[u8], list: &mut [u8], out: &mut [u8]) -> usize
     let count = list.len();
     let cost = rewriting::list_cost(&list[..count], prices);
     match peephole::rewrite(wires, window, prices, list) {
-        Rewritten::Refused(code) => refusal::refused_text(code, out),
-        Rewritten::Gates(left) => rewriting::put_rewritten(count, cost, &list[..left], prices, out),
+        Err(e) => refusal::refused_text(u8::from(e), out),
+        Ok(left) => rewriting::put_rewritten(count, cost, &list[..left], prices, out),
     }
 }

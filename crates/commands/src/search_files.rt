@@ -1,6 +1,7 @@
 // `gazbolk search`, with a library or without one, and `gazbolk batch`.
-ghost use Rattle.std.specs.Prelude.{◌≡◌, ◌<◌, ◌≤◌, length};
-ghost use Rattle.outcomes.specs.Outcomes.{reported, written, searched_answer, size_in};
+ghost use Rattle.std.specs.Prelude.{◌≡◌, ◌<◌, ◌≤◌, length, IfOk};
+ghost use Rattle.record.specs.Answers.{reply};
+ghost use Rattle.outcomes.specs.Outcomes.{reported, written};
 ghost use Rattle.text.specs.pieces.Text.{in_front};
 ghost use Rattle.batch.specs.cutting.Records.{count_of, job_at};
 ghost use Rattle.printed.specs.job_line.Lines.{line_of};
@@ -9,15 +10,16 @@ ghost use Rattle.printed.specs.files.Files.{lent, finding, search_text};
 
 use crate::program;
 use batch::cutting;
-use outcomes::Searched;
+use outcomes::Reported;
+use record::refusal::Refusal;
 use reports::refusal;
 
 // Searches for a job's circuit, with the library if one is lent.
 #[tactic(auto, unfolding(printed::specs::files::Files::finding))]
-fn find(job: &[u8], library: Option<&[u8]>, answer: &mut [u8]) -> Searched
-    ensures result_value { searched_answer result
+fn find(job: &[u8], library: Option<&[u8]>, answer: &mut [u8]) -> Result<Reported, Refusal>
+    ensures result_value { reply result
         ≡ reported (finding job.now (lent library.entry) (length answer.old)) }
-    ensures result_bound { size_in result ≤ 15 }
+    ensures result_bound { IfOk result (λ found. found.size ≤ 15) }
     ensures answer_after { answer.new
         ≡ written (finding job.now (lent library.entry) (length answer.old)) answer.old }
 {
@@ -36,8 +38,8 @@ pub fn search_text(job: &[u8], library: Option<&[u8]>, out: &mut [u8]) -> usize
 {
     let mut answer = [0u8; 15];
     match find(job, library, &mut answer) {
-        Searched::Refused(code) => refusal::refused_text(code, out),
-        Searched::Found(size, m) => text::found_line(m, &answer[..size], out),
+        Err(e) => refusal::refused_text(u8::from(e), out),
+        Ok(found) => text::found_line(found.measures, &answer[..found.size], out),
     }
 }
 
@@ -65,6 +67,6 @@ pub fn batch_part(jobs: &[u8], i: usize, out: &mut [u8]) -> usize
     if cut.end == jobs.len() {
         job_line(jobs, i, out)
     } else {
-        refusal::refused_text(26, out)
+        refusal::refused_text(u8::from(Refusal::BatchForm), out)
     }
 }

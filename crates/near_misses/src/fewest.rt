@@ -1,8 +1,8 @@
 // A lower bound on the wanted bits that a list misses once it goes on by at most so many gates, from the columns of today.
-ghost use Rattle.std.specs.Prelude.{◌≡◌, ◌+◌, ◌*◌, ◌≤◌, ◌<◌, eqb, get_or, length};
+ghost use Rattle.std.specs.Prelude.{◌≡◌, List, ◌∷◌, ℕ, ◌+◌, ◌≤◌, ◌<◌, eqb, get_or};
 ghost use Rattle.std.specs.List.{AllWithin};
 ghost use Rattle.logic.specs.Rules.{pick};
-ghost use Rattle.near_misses.specs.misses.Columns.{missed_by, least_of, least_missed, least_left, missed_at_least};
+ghost use Rattle.near_misses.specs.misses.Columns.{missed_by, least_of, least_missed, least_left, lefts, AtMost, missed_at_least};
 
 use crate::misses;
 use columns::Wanted;
@@ -53,24 +53,34 @@ fn least_last(t: Wanted, columns: [u16; 5], n: usize, free: usize) -> usize
     }
 }
 
-// The least sum of some numbers once up to `r` of them are left out.
-fn least_left(missed: &[usize], r: usize) -> usize
-    requires few { length missed.now ≤ 4 }
-    requires each { AllWithin (λ m. m ≤ 16) missed.now 0 (length missed.now) }
-    ensures value { result ≡ least_left missed.now r }
-    ensures upper_bound { result ≤ 16 * length missed.now }
+// The least sums of some numbers and one more, `m`: entry `i` once up to `i` of them are left out, from those without `m`.
+fn with_one(m: usize, least: [usize; 4]) -> [usize; 4]
+    requires m_bound { m ≤ 16 }
+    requires least_bound { AtMost 48 least }
+    ensures value { (xs : List ℕ) → least ≡ lefts xs → result ≡ lefts (m ∷ xs) }
+    ensures upper_bound { (b : ℕ) → AtMost b least → AtMost (b + 16) result }
 {
-    match missed {
-        [] => 0,
-        [first, rest @ ..] => {
-            let all = *first + least_left(rest, r);
-            if r == 0 {
-                all
-            } else {
-                all.min(least_left(rest, r - 1))
-            }
-        }
+    let [none, one, two, three] = least;
+    [
+        m + none,
+        (m + one).min(none),
+        (m + two).min(one),
+        (m + three).min(two),
+    ]
+}
+
+// The least sum of four numbers once up to `r` of them are left out. All four sums are kept up, without a branch: a recursion over the
+// numbers takes twice the time of a search.
+fn least_left(missed: [usize; 4], r: usize) -> usize
+    requires r_bound { r < 4 }
+    requires each { AllWithin (λ m. m ≤ 16) missed 0 4 }
+    ensures { result ≡ least_left missed r }
+{
+    let mut least = [0; 4];
+    for i in (0..4).rev() {
+        least = with_one(missed[i], least);
     }
+    least[r]
 }
 
 // How many wanted bits are missed at least after up to `r` more gates. Each gate changes one wire, so all outputs but `r` are still on a
@@ -87,5 +97,5 @@ pub fn missed_at_least(t: Wanted, columns: [u16; 5], n: usize, free: usize, r: u
         least_missed(t, columns, n, free, 1),
         least_missed(t, columns, n, free, 0),
     ];
-    least_left(&missed, r)
+    least_left(missed, r)
 }

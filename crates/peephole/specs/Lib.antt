@@ -1,4 +1,3 @@
-pub mod Answers
 pub mod Inner
 pub mod windows
 pub mod listing

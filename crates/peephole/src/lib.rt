@@ -8,22 +8,15 @@ pub mod listing; // what needs no search: the rules of a list, the job of a wind
 pub mod windows; // definitions and theorems: when a window yields, and what a list becomes
 
 ghost use Rattle.std.specs.Prelude.{◌≡◌, ◌+◌, ◌-◌, ◌≤◌, length, take};
+ghost use Rattle.record.specs.Answers.{reply};
 ghost use Rattle.table.specs.layouts.Layouts.{Width};
 ghost use Rattle.peephole.specs.windows.Windows.{better, rewritten};
 ghost use Rattle.peephole.specs.windows.Listings.{rewrite_of, list_left};
 ghost use Rattle.peephole.specs.windows.Inner.{Still};
-ghost use Rattle.peephole.specs.Answers.{rewritten_answer};
 ghost use Rattle.peephole.specs.Inner.{offered, Scanned};
 
 use crate::windows::Prices;
-use outcomes::Searched;
-
-// The answer: a refusal code, or how many gates the list has now.
-#[derive(Clone, Copy)]
-pub enum Rewritten {
-    Refused(u8),
-    Gates(usize),
-}
+use record::refusal::Refusal;
 
 // What the search found for a window: whether it is cheaper than the window, and its record, whose `len` gates begin at byte 3.
 #[derive(Clone, Copy)]
@@ -54,14 +47,14 @@ fn look_at(wires: usize, prices: Prices, gates: &[u8]) -> Offer
     let end = 12 + listing::value_count(wires);
     let mut bytes = [0u8; 15];
     match search::search(&job[..end], &mut bytes) {
-        Searched::Refused(_) => Offer {
-            cheaper: false,
-            len: 0,
+        Ok(found) => Offer {
+            cheaper: found.measures.cost < circuit::cost(gates, listing::weights(prices)),
+            len: found.size - 3,
             bytes,
         },
-        Searched::Found(size, m) => Offer {
-            cheaper: m.cost < circuit::cost(gates, listing::weights(prices)),
-            len: size - 3,
+        Err(_) => Offer {
+            cheaper: false,
+            len: 0,
             bytes,
         },
     }
@@ -128,18 +121,14 @@ fn settle(wires: usize, window: usize, prices: Prices, list: &mut [u8]) -> usize
 }
 
 // Makes a list cheaper, a window of gates at a time, and returns its new number of gates. The bytes that it no longer needs become 0.
-pub fn rewrite(wires: u8, window: u8, prices: Prices, list: &mut [u8]) -> Rewritten
-    ensures result_value { rewritten_answer result ≡ rewrite_of wires window prices list.old }
+pub fn rewrite(wires: u8, window: u8, prices: Prices, list: &mut [u8]) -> Result<usize, Refusal>
+    ensures result_value { reply result ≡ rewrite_of wires window prices list.old }
     ensures list_after { list.new ≡ list_left wires window prices list.old }
 {
-    let n = logic::wide(wires);
-    let k = logic::wide(window);
-    let size = list.len();
-    let code = listing::rewrite_code(n, k, &list[..size]);
-    if code != 0 {
-        return Rewritten::Refused(code);
-    }
+    let n = usize::from(wires);
+    let k = usize::from(window);
+    listing::check_rewrite(n, k, list)?;
     let count = settle(n, k, prices, list);
     listing::clear(list, count);
-    Rewritten::Gates(count)
+    Ok(count)
 }

@@ -1,5 +1,6 @@
 // What rewriting a list needs besides the search: the rules of a list, the job of a window, and a window replaced.
 ghost use Rattle.std.specs.Prelude.{◌≡◌, ◌++◌, ◌+◌, ◌-◌, ◌*◌, ◌%◌, ◌^◌, ◌<◌, ◌≤◌, length, take, drop, replicate};
+ghost use Rattle.record.specs.Answers.{code_of};
 ghost use Rattle.circuit.specs.run.Run.{forwards};
 ghost use Rattle.table.specs.layouts.Layouts.{Width};
 ghost use Rattle.peephole.specs.windows.Windows.{weights, window_job, spliced};
@@ -8,6 +9,8 @@ ghost use Rattle.peephole.specs.listing.Inner.{job_head};
 
 use crate::windows::Prices;
 use circuit::{Weights, run};
+use record::refusal;
+use record::refusal::Refusal;
 use text::pieces;
 
 // The prices by kind of gate. No gate here has three controls, so the fourth price is never used.
@@ -111,15 +114,12 @@ fn sizes_ok(wires: usize, window: usize) -> bool
     matches!(wires, 3 | 4) && matches!(window, 2..=4)
 }
 
-// The code of the first rule broken, or 0. The gates are looked at only where the wires, the window and the length are in order.
-pub fn rewrite_code(wires: usize, window: usize, list: &[u8]) -> u8
-    ensures { result ≡ rewrite_code wires window list.now }
+// Checks a list that is to be rewritten. The gates are looked at only where the wires, the window and the length are in order.
+#[tactic(auto, using(crate::proofs::windows::Promises::sizes_sound), unfolding(crate::specs::windows::Listings::rewrite_code))]
+pub fn check_rewrite(wires: usize, window: usize, list: &[u8]) -> Result<(), Refusal>
+    ensures { code_of result ≡ rewrite_code wires window list.now }
 {
-    if !sizes_ok(wires, window) {
-        return 32;
-    }
-    if 4096 < list.len() {
-        return 33;
-    }
-    logic::rule(gate::all_lawful(2, wires, list), 34, 0)
+    refusal::kept(sizes_ok(wires, window), Refusal::Window)?;
+    refusal::kept(list.len() <= 4096, Refusal::ListLength)?;
+    refusal::kept(gate::all_lawful(2, wires, list), Refusal::ListGate)
 }

@@ -1,14 +1,15 @@
 // The code of `gazbolk verify`: a job, a circuit, which is a record or RevLib text, and perhaps a library, to the verdict that is printed.
 ghost use Rattle.std.specs.Prelude.{◌≡◌, ◌≤◌, length};
-ghost use Rattle.verify.specs.Calls.{measured_answer};
+ghost use Rattle.record.specs.Answers.{reply};
 ghost use Rattle.text.specs.pieces.Text.{in_front};
 ghost use Rattle.revlib.specs.Reading.{read_of};
 ghost use Rattle.printed.specs.files.Files.{is_text, lent, verdict, verdict_on, verify_file, verify_text};
 
+use circuit::measures::Measures;
 use library::calls;
+use record::refusal::Refusal;
 use reports::pass;
-use revlib_reader::{Parsed, keywords};
-use verify::Measured;
+use revlib_reader::keywords;
 
 // Whether a file is RevLib text.
 #[tactic(auto, unfolding(crate::specs::files::Files::is_text))]
@@ -20,8 +21,8 @@ fn is_text(file: &[u8]) -> bool
 
 // Verifies a circuit record for a job, with the library if one is lent.
 #[tactic(auto, unfolding(crate::specs::files::Files::verdict))]
-fn verdict(job: &[u8], library: Option<&[u8]>, circuit: &[u8]) -> Measured
-    ensures { measured_answer result ≡ verdict job.now (lent library.entry) circuit.now }
+fn verdict(job: &[u8], library: Option<&[u8]>, circuit: &[u8]) -> Result<Measures, Refusal>
+    ensures { reply result ≡ verdict job.now (lent library.entry) circuit.now }
 {
     match library {
         Some(library) => calls::verify_with(job, library, circuit),
@@ -30,21 +31,19 @@ fn verdict(job: &[u8], library: Option<&[u8]>, circuit: &[u8]) -> Measured
 }
 
 // Verifies the circuit that a RevLib text describes for a job.
-fn verify_real(job: &[u8], library: Option<&[u8]>, text: &[u8]) -> Measured
-    ensures { measured_answer result
+fn verify_real(job: &[u8], library: Option<&[u8]>, text: &[u8]) -> Result<Measures, Refusal>
+    ensures { reply result
         ≡ verdict_on job.now (lent library.entry) (read_of text.now 15) }
 {
     let mut answer = [0u8; 15];
-    match revlib_reader::read(text, &mut answer) {
-        Parsed::Refused(code) => Measured::Refused(code),
-        Parsed::Record(size) => verdict(job, library, &answer[..size]),
-    }
+    let size = revlib_reader::read(text, &mut answer)?;
+    verdict(job, library, &answer[..size])
 }
 
 // Verifies the circuit of a file for a job: the number of the first rule broken, or the circuit's measures.
 #[tactic(auto, unfolding(crate::specs::files::Files::verify_file, crate::specs::files::Files::circuit_in))]
-pub fn verify_file(job: &[u8], library: Option<&[u8]>, file: &[u8]) -> Measured
-    ensures { measured_answer result ≡ verify_file job.now (lent library.entry) file.now }
+pub fn verify_file(job: &[u8], library: Option<&[u8]>, file: &[u8]) -> Result<Measures, Refusal>
+    ensures { reply result ≡ verify_file job.now (lent library.entry) file.now }
 {
     if is_text(file) {
         verify_real(job, library, file)

@@ -2,9 +2,8 @@
 use circuit::measures::Measures;
 use console::{data_lines, output, slot_lines};
 use parity::TableParity;
-use record::{Checked, circuit_rules};
-use verify::Measured;
-use verify::runs::Ran;
+use outcomes::Reported;
+use record::refusal::Refusal;
 
 // The words of a line that is a call: its name, and up to three words that write bytes.
 #[derive(Clone, Copy)]
@@ -79,11 +78,23 @@ fn third_fits(kind: Word, word: Option<&[u8]>) -> bool {
     }
 }
 
-pub fn say_checked(rt: &impl Print, answer: Checked) {
+// Says a refusal, or else the answer.
+pub fn say_answer<T: Drop, F: FnOnce(T) + Drop>(rt: &impl Print, answer: Result<T, Refusal>, say: F)
+    requires { F.IsAlwaysCallable say }
+{
     match answer {
-        Checked::Refused(code) => say_refused(rt, code),
-        Checked::Sound => output::say(rt, b"sound"),
+        Err(e) => say_refused(rt, e),
+        Ok(value) => say(value),
     }
+}
+
+fn say_refused(rt: &impl Print, e: Refusal) {
+    let _ = print!(rt; "refused {}", u8::from(e));
+}
+
+// Says the answer of a check.
+pub fn say_checked(rt: &impl Print, answer: Result<(), Refusal>) {
+    say_answer(rt, answer, |()| output::say(rt, b"sound"));
 }
 
 // Says the code of a circuit, cut to 16 bytes, with each gate count from 0 to 255 in place of its own: 0 where that makes it sound.
@@ -99,31 +110,25 @@ pub fn say_every(rt: &impl Print, circuit: &[u8]) {
 }
 
 fn say_code(rt: &impl Print, circuit: &[u8]) {
-    let code = circuit_rules::circuit_code(circuit);
-    let _ = print!(rt; " {code}");
-}
-
-pub fn say_ran(rt: &impl Print, answer: Ran) {
-    match answer {
-        Ran::Refused(code) => say_refused(rt, code),
-        Ran::Value(value) => say_value(rt, value),
+    match record::check_circuit(circuit) {
+        Err(e) => output::say_count(rt, b" ", u64::from(u8::from(e))),
+        Ok(()) => output::say(rt, b" 0"),
     }
 }
 
-fn say_value(rt: &impl Print, value: u8) {
-    let _ = print!(rt; "value {value:02X}");
+// Says the answer of a run.
+pub fn say_ran(rt: &impl Print, answer: Result<u8, Refusal>) {
+    say_answer(rt, answer, |value| {
+        let _ = print!(rt; "value {value:02X}");
+    });
 }
 
-pub fn say_measured(rt: &impl Print, answer: Measured) {
-    match answer {
-        Measured::Refused(code) => say_refused(rt, code),
-        Measured::Within(m) => say_within(rt, m),
-    }
-}
-
-fn say_within(rt: &impl Print, m: Measures) {
-    output::say(rt, b"within ");
-    say_measures(rt, m);
+// Says the measures of a circuit within the limits.
+pub fn say_measured(rt: &impl Print, answer: Result<Measures, Refusal>) {
+    say_answer(rt, answer, |measures| {
+        output::say(rt, b"within ");
+        say_measures(rt, measures);
+    });
 }
 
 fn say_measures(rt: &impl Print, m: Measures) {
@@ -140,27 +145,22 @@ pub fn number_in(bytes: &[u8]) -> u16 {
     u16::from_be_bytes([logic::at(bytes, 0), logic::at(bytes, 1)])
 }
 
-pub fn say_parity(rt: &impl Print, answer: TableParity) {
-    match answer {
-        TableParity::Refused(code) => say_refused(rt, code),
-        TableParity::Even => output::say(rt, b"even"),
-        TableParity::Odd => output::say(rt, b"odd"),
-        TableParity::Neither => output::say(rt, b"neither"),
-    }
+// Says the answer of `parity`.
+pub fn say_parity(rt: &impl Print, answer: Result<TableParity, Refusal>) {
+    say_answer(rt, answer, |parity| {
+        let word = match parity {
+            TableParity::Even => b"even".as_slice(),
+            TableParity::Odd => b"odd".as_slice(),
+            TableParity::Neither => b"neither".as_slice(),
+        };
+        output::say(rt, word);
+    });
 }
 
-pub fn say_found(rt: &impl Print, size: usize, m: Measures) {
-    let _ = print!(rt; "found {size} ");
-    say_measures(rt, m);
-}
-
-pub fn say_near(rt: &impl Print, size: usize, m: Measures, misses: usize) {
-    say_found(rt, size, m);
-    let _ = print!(rt; " misses {misses}");
-}
-
-pub fn say_jobs(rt: &impl Print, count: usize) {
-    let _ = print!(rt; "jobs {count}");
+// Says the record's length and the measures of a circuit that was found.
+pub fn say_found(rt: &impl Print, found: Reported) {
+    let _ = print!(rt; "found {} ", found.size);
+    say_measures(rt, found.measures);
 }
 
 // Fills a list with the gates, over and over; where there is none the list stays as it is.
@@ -170,15 +170,7 @@ pub fn repeat(gates: &[u8], list: &mut [u8]) {
     }
 }
 
-pub fn say_gates(rt: &impl Print, count: usize) {
-    let _ = print!(rt; "gates {count}");
-}
-
 // Says a line without its line feed.
 pub fn say_front(rt: &impl Print, line: &[u8]) {
     output::say(rt, line.strip_suffix(b"\n").unwrap_or(line));
-}
-
-pub fn say_refused(rt: &impl Print, code: u8) {
-    let _ = print!(rt; "refused {code}");
 }

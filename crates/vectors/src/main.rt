@@ -6,16 +6,14 @@
 
 mod call_lines;
 
-use approximate::Nearest;
-use batch::Batched;
-use call_lines::Call;
+use call_lines::{Call, say_answer};
 use commands::{program, search_files};
 use console::{data_lines, input, output};
 use library::calls;
-use outcomes::Searched;
-use peephole::Rewritten;
+use outcomes::Reported;
 use printed::rewriting;
-use sensitivity::{Change, difference};
+use record::refusal::Refusal;
+use sensitivity::difference;
 use std::rt::Files;
 use verify::runs;
 
@@ -141,7 +139,9 @@ fn dispatch_search(rt: &impl Print, name: &[u8], first: &[u8], second: &[u8], th
         b"among" => say_search(rt, first, Some(second), logic::at(third, 0)),
         b"with" => call_lines::say_measured(rt, calls::verify_with(first, second, third)),
         b"together" => say_batch(rt, first, second, logic::at(third, 0)),
-        b"difference" => say_change(rt, sensitivity::price_change(first, second)),
+        b"difference" => say_answer(rt, sensitivity::price_change(first, second), |change| {
+            call_lines::say_difference(rt, change)
+        }),
         b"gap" => say_gap(
             rt,
             call_lines::number_in(first),
@@ -157,34 +157,22 @@ fn say_gap(rt: &impl Print, old: u16, new: u16) {
     call_lines::say_difference(rt, difference::cost_difference(old, new));
 }
 
-fn say_change(rt: &impl Print, answer: Change) {
-    match answer {
-        Change::Refused(code) => call_lines::say_refused(rt, code),
-        Change::By(difference) => call_lines::say_difference(rt, difference),
-    }
-}
-
 // Searches with a numbered buffer of `room` bytes, and says the answer and the whole buffer.
 fn say_search(rt: &impl Print, job: &[u8], library: Option<&[u8]>, room: u8) {
     let mut buffer = data_lines::numbered();
     let answer = &mut buffer[..usize::from(room)];
-    say_searched(rt, search_one(job, library, answer));
+    say_answer(rt, search_one(job, library, answer), |found| {
+        call_lines::say_found(rt, found)
+    });
     output::say(rt, b" ");
     data_lines::say_bytes(rt, answer);
 }
 
 // Searches among the gates of a library, or among those that the job allows.
-fn search_one(job: &[u8], library: Option<&[u8]>, answer: &mut [u8]) -> Searched {
+fn search_one(job: &[u8], library: Option<&[u8]>, answer: &mut [u8]) -> Result<Reported, Refusal> {
     match library {
         Some(library) => library::search_with(job, library, answer),
         None => search::search(job, answer),
-    }
-}
-
-fn say_searched(rt: &impl Print, answer: Searched) {
-    match answer {
-        Searched::Refused(code) => call_lines::say_refused(rt, code),
-        Searched::Found(size, m) => call_lines::say_found(rt, size, m),
     }
 }
 
@@ -192,16 +180,12 @@ fn say_searched(rt: &impl Print, answer: Searched) {
 fn say_closest(rt: &impl Print, job: &[u8], room: u8) {
     let mut buffer = data_lines::numbered();
     let answer = &mut buffer[..usize::from(room)];
-    say_nearest(rt, approximate::closest(job, answer));
+    say_answer(rt, approximate::closest(job, answer), |nearest| {
+        call_lines::say_found(rt, nearest.report);
+        output::say_count(rt, b" misses ", nearest.misses as u64);
+    });
     output::say(rt, b" ");
     data_lines::say_bytes(rt, answer);
-}
-
-fn say_nearest(rt: &impl Print, answer: Nearest) {
-    match answer {
-        Nearest::Refused(code) => call_lines::say_refused(rt, code),
-        Nearest::Found(size, m, misses) => call_lines::say_near(rt, size, m, misses),
-    }
 }
 
 // Searches for the jobs of a batch with numbered buffers, and says the answer and both buffers whole. `answers` and `statuses` are the
@@ -211,18 +195,13 @@ fn say_batch(rt: &impl Print, jobs: &[u8], answers: &[u8], statuses: u8) {
     let mut codes = data_lines::numbered();
     let codes = &mut codes[..usize::from(statuses)];
     if let Some(cells) = cells.get_mut(..usize::from(call_lines::number_in(answers))) {
-        say_batched(rt, batch::search_all(jobs, cells, codes));
+        say_answer(rt, batch::search_all(jobs, cells, codes), |count| {
+            output::say_count(rt, b"jobs ", count as u64)
+        });
         output::say(rt, b" ");
         data_lines::say_bytes(rt, cells);
         output::say(rt, b" ");
         data_lines::say_bytes(rt, codes);
-    }
-}
-
-fn say_batched(rt: &impl Print, answer: Batched) {
-    match answer {
-        Batched::Refused(code) => call_lines::say_refused(rt, code),
-        Batched::Jobs(count) => call_lines::say_jobs(rt, count),
     }
 }
 
@@ -233,19 +212,13 @@ fn say_rewrite(rt: &impl Print, setting: &[u8], gates: &[u8], size: &[u8]) {
     let list = &mut list[..usize::from(call_lines::number_in(size))];
     call_lines::repeat(gates, list);
     let prices = rewriting::prices_in(setting);
-    say_rewritten(
-        rt,
-        peephole::rewrite(logic::at(setting, 0), logic::at(setting, 1), prices, list),
-    );
+    let wires = logic::at(setting, 0);
+    let window = logic::at(setting, 1);
+    say_answer(rt, peephole::rewrite(wires, window, prices, list), |count| {
+        output::say_count(rt, b"gates ", count as u64)
+    });
     output::say(rt, b" ");
     data_lines::say_bytes(rt, list);
-}
-
-fn say_rewritten(rt: &impl Print, answer: Rewritten) {
-    match answer {
-        Rewritten::Refused(code) => call_lines::say_refused(rt, code),
-        Rewritten::Gates(count) => call_lines::say_gates(rt, count),
-    }
 }
 
 // Says the line that `main` prints for a job, without its line feed.

@@ -19,9 +19,9 @@ run-requires-clause-fair c = in_range (handed (goal.at.run-requires-clause-fair 
 pub run-requires-clause-known : goal.run-requires-clause-known
 run-requires-clause-known c = on_wires (handed (goal.at.run-requires-clause-known c).After-task_of)
 
-pub returns-clause-result_value : goal.returns-clause-result_value
-returns-clause-result_value c =
-    let h = handed (goal.at.returns-clause-result_value c).After-task_of in
+pub returns : goal.returns
+returns c =
+    let h = handed (goal.at.returns c).After-task_of in
     let t : Tabled (own_set c.args.job.now) c.entries.result.now = rw c.entries.ensures c.own_stock-own.ensures.tabled in
-    c.run.ensures.result_value (problem_of c.args.job.now) (posed h t) (limited h t)
+    c.run.ensures (problem_of c.args.job.now) (posed h t) (limited h t)
     ∙ ap (λ (u : Task). first_good (loosened u c.args.k (problem_of c.args.job.now))) c.task_of.ensures ∙ walked_first c.args.job.now c.requires c.args.k

@@ -1,55 +1,72 @@
--- A rule broken, or the first choice that misses fewest, told with its measures and its misses.
+-- A rule broken, nothing found, or the first choice that misses fewest, told with its measures and its misses.
 use mathlib.Core.Path.{◌≡◌, sym, ap, ◌∙◌}
-use Prim.Native.Nat.{ℕ, ◌≤◌}
+use borrow.Author.Rules.{rules}
 use lib.ListN.{length}
 use Rattle.logic.specs.Answers.{Answer, refused}
-use Rattle.record.specs.JobRules.{job_code}
-use Rattle.outcomes.specs.Outcomes.{Found, written}
+use Rattle.problem.specs.order.View.{view, choice}
+use Rattle.circuit.specs.measures.Measures.{measures_of}
+use Rattle.record.specs.job_fields.Jobs.{price_of, duration_of}
+use Rattle.record.specs.Answers.{number}
 use Rattle.record.specs.pair_codes.Codes.{search_code}
+use Rattle.outcomes.specs.Outcomes.{written, reported}
+use Rattle.outcomes.specs.Inner.{told_of}
 use Rattle.outcomes.proofs.Facts.{code_parts}
-use Rattle.approximate.specs.Calls.{Close, circuit_in, with_misses, told}
-use Rattle.approximate.proofs.Answer.{by_code, told_is, circuit_is}
+use Rattle.approximate.specs.Calls.{Close, circuit_in, closest_of, with_misses, told}
+use Rattle.approximate.proofs.Answer.{refused_is, none_is, told_is, circuit_is}
 use Rattle.approximate.proofs.closest.Goals as goal
-use Rattle.approximate.proofs.closest.Goals.{Else-code-ne0}
+use Rattle.approximate.proofs.closest.Goals.{In_err-check_search, In_ok-check_search, In_err-best, After-tell}
 
--- past the checks
-kept : (c : Else-code-ne0) → (search_code c.args.job.now (length c.args.answer.now) ≡ 0)
-kept c = sym c.search_code-code.ensures ∙ c.if-code-ne0.false
+-- what the checks let through
+kept : (c : In_ok-check_search) → search_code c.args.job.now (length c.args.answer.now) ≡ 0
+kept c = sym c.in_ok-check_search.ensures
 
-sound : (c : Else-code-ne0) → ((job_code c.args.job.now ≡ 0) × (15 ≤ length c.args.answer.now))
-sound c =
-    code_parts c.args.job.now (length c.args.answer.now) (kept c)
+-- what the call answers, on each way out
+refusal : (c : In_err-check_search) → closest_of c.args.job.now (length c.args.answer.now) ≡ refused (number c.in_err-check_search.field-0.0)
+refusal c = refused_is c.args.job.now _ c.in_err-check_search.field-0.0 c.in_err-check_search.ensures
 
-pub returns-then-code-ne0-clause-result_value : goal.returns-then-code-ne0-clause-result_value
-returns-then-code-ne0-clause-result_value c =
-    let room = length c.args.answer.now in
-    let e = by_code c.args.job.now room (λ z. c.if-code-ne0.true (c.search_code-code.ensures ∙ z)) in ap (λ (n : ℕ). told (refused n)) c.search_code-code.ensures ∙ sym (ap told e)
+nothing : (c : In_err-best) → closest_of c.args.job.now (length c.args.answer.now) ≡ refused (number c.in_err-best.field-0.0)
+nothing c =
+    none_is c.args.job.now _ (sym c.in_ok-check_search.ensures) (sym (ap view c.in_err-best.ensures.err.0) ∙ c.approach-near.ensures.1)
+    ∙ sym (ap (λ e. refused (number e)) c.in_err-best.ensures.err.1)
 
-pub returns-then-code-ne0-clause-answer_after : goal.returns-then-code-ne0-clause-answer_after
-returns-then-code-ne0-clause-answer_after c =
-    let room = length c.args.answer.now in
-    let e = by_code c.args.job.now room (λ z. c.if-code-ne0.true (c.search_code-code.ensures ∙ z)) in sym (ap (λ (o : Answer Close). written (circuit_in o) c.args.answer.now) e)
+module _ (c : After-tell) where
+  circuit : told_of c.args.job.now c.measures_of-measures.result (choice c.in_ok-best.best) ≡ circuit_in (closest_of c.args.job.now (length c.args.answer.now))
+  circuit =
+      circuit_is c.args.job.now _ (sym c.in_ok-check_search.ensures) c.in_ok-best.best c.approach-near.result.misses
+      (sym (ap view c.in_ok-best.ensures.ok) ∙ c.approach-near.ensures.1) c.approach-near.ensures.0
+      c.measures_of-measures.result (c.measures_of-measures.ensures ∙ ap (measures_of (price_of c.args.job.now) (duration_of c.args.job.now)) c.gates.ensures)
+
+  close : with_misses c.approach-near.result.misses (reported (told_of c.args.job.now c.measures_of-measures.result (choice c.in_ok-best.best)))
+      ≡ told (closest_of c.args.job.now (length c.args.answer.now))
+  close =
+      told_is c.args.job.now _ (sym c.in_ok-check_search.ensures) c.in_ok-best.best c.approach-near.result.misses
+      (sym (ap view c.in_ok-best.ensures.ok) ∙ c.approach-near.ensures.1) c.approach-near.ensures.0
+      c.measures_of-measures.result (c.measures_of-measures.ensures ∙ ap (measures_of (price_of c.args.job.now) (duration_of c.args.job.now)) c.gates.ensures)
 
 pub approach-near-requires : goal.approach-near-requires
-approach-near-requires c = (sound (goal.at.approach-near-requires c).Else-code-ne0).0
+approach-near-requires c = (code_parts c.args.job.now (length c.args.answer.now) (kept c)).0
 
-pub tell-requires-clause-in_bounds : goal.tell-requires-clause-in_bounds
-tell-requires-clause-in_bounds c = (sound (goal.at.tell-requires-clause-in_bounds c).Else-code-ne0).1
+pub tell-requires : goal.tell-requires
+tell-requires c = (code_parts c.args.job.now (length c.args.answer.now) (kept (goal.at.tell-requires c).In_ok-check_search)).1
+
+pub returns-in_err-check_search-clause-result_value : goal.returns-in_err-check_search-clause-result_value
+returns-in_err-check_search-clause-result_value c = rw (ap told (refusal (goal.at.returns-in_err-check_search-clause-result_value c).In_err-check_search)) (search rules)
+
+pub returns-in_err-check_search-clause-answer_after : goal.returns-in_err-check_search-clause-answer_after
+returns-in_err-check_search-clause-answer_after c =
+    sym (ap (λ (o : Answer Close). written (circuit_in o) c.args.answer.now) (refusal (goal.at.returns-in_err-check_search-clause-answer_after c).In_err-check_search))
+
+pub returns-in_err-best-clause-result_value : goal.returns-in_err-best-clause-result_value
+returns-in_err-best-clause-result_value c = rw (ap told (nothing (goal.at.returns-in_err-best-clause-result_value c).In_err-best)) (search rules)
+
+pub returns-in_err-best-clause-answer_after : goal.returns-in_err-best-clause-answer_after
+returns-in_err-best-clause-answer_after c =
+    sym (ap (λ (o : Answer Close). written (circuit_in o) c.args.answer.now) (nothing (goal.at.returns-in_err-best-clause-answer_after c).In_err-best))
 
 pub returns-clause-result_value : goal.returns-clause-result_value
 returns-clause-result_value c =
-    let room = length c.args.answer.now in
-    let z = kept (goal.at.returns-clause-result_value c).Else-code-ne0 in
-    let told-so
-    = told_is c.args.job.now room z c.approach-near.result.best c.approach-near.result.misses c.approach-near.ensures.misses_value.1 c.approach-near.ensures.misses_value.0 c.measures_of-measures.result c.measures_of-measures.ensures in
-    let found-so
-    = circuit_is c.args.job.now room z c.approach-near.result.best c.approach-near.result.misses c.approach-near.ensures.misses_value.1 c.approach-near.ensures.misses_value.0 c.measures_of-measures.result c.measures_of-measures.ensures in c.with_misses.ensures.result_value ∙ ap (with_misses c.approach-near.result.misses) c.tell.ensures.result_value ∙ told-so
+    ap (with_misses c.approach-near.result.misses) c.tell.ensures.result_value ∙ close (goal.at.returns-clause-result_value c).After-tell
 
 pub returns-clause-answer_after : goal.returns-clause-answer_after
 returns-clause-answer_after c =
-    let room = length c.args.answer.now in
-    let z = kept (goal.at.returns-clause-answer_after c).Else-code-ne0 in
-    let told-so
-    = told_is c.args.job.now room z c.approach-near.result.best c.approach-near.result.misses c.approach-near.ensures.misses_value.1 c.approach-near.ensures.misses_value.0 c.measures_of-measures.result c.measures_of-measures.ensures in
-    let found-so
-    = circuit_is c.args.job.now room z c.approach-near.result.best c.approach-near.result.misses c.approach-near.ensures.misses_value.1 c.approach-near.ensures.misses_value.0 c.measures_of-measures.result c.measures_of-measures.ensures in c.tell.ensures.answer_after ∙ ap (λ (o : Answer Found). written o c.args.answer.now) found-so
+    c.tell.ensures.answer_after ∙ ap (λ o. written o c.args.answer.now) (circuit (goal.at.returns-clause-answer_after c).After-tell)

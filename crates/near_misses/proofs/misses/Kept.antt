@@ -3,13 +3,13 @@ use mathlib.Core.Path.{◌≡◌, refl, sym, ap, ◌∙◌}
 use mathlib.Core.Logic.{⊎_elim}
 use mathlib.Core.Bool.{Bool, true, false}
 use mathlib.Core.List.{List, [], ◌∷◌, Memᴰ}
-use Prim.Native.Nat.{ℕ, zero, suc, ◌+◌, ◌-◌, ◌≤◌, ◌<◌, min}
+use Prim.Native.Nat.{ℕ, zero, suc, ◌+◌, ◌≤◌, ◌<◌, min}
 use native.Mathlib.Decide.{ℕ_discrete}
 use native.Mathlib.Omega.{arith}
 use borrow.Author.Tests.{eq-eqb, ne_eqb}
 use lib.Bits.{bit_xor}
 use lib.Dec.{eqb}
-use lib.ListN.{length, get_or, drop}
+use lib.ListN.{length, get_or}
 use lib.Seq.{get_or-set_other}
 use Rattle.logic.specs.Rules.{either, pick, bit, count_below}
 use Rattle.logic.specs.Lists.{all_of, along}
@@ -23,7 +23,7 @@ use Rattle.table.specs.layouts.Layouts.{Width, wire_of, layouts_for}
 use Rattle.table.proofs.layouts.Layouts.{wire_within, wire_once, wire_fixed}
 use Rattle.columns.specs.declared.Wanted.{Wanted}
 use Rattle.outputs.proofs.Few.{target_lt}
-use Rattle.near_misses.specs.misses.Columns.{missed_by, missed_for, missed_on, least_of, least_missed, least_left, missed_at_least}
+use Rattle.near_misses.specs.misses.Columns.{missed_by, missed_for, missed_on, least_of, least_missed, least_left, lefts, missed_at_least}
 
 -- some gate of the list is on the wire
 unfoldable hit : ℕ → List ℕ → Bool
@@ -72,23 +72,23 @@ left_least (true ∷ hs) (x ∷ xs) (suc r) e h = omega (arith, left_least hs xs
 left_least (false ∷ hs) (x ∷ xs) zero e h = omega (arith, left_least hs xs zero (omega arith) (omega arith))
 left_least (false ∷ hs) (x ∷ xs) (suc r) e h = omega (arith, left_least hs xs (suc r) (omega arith) (omega arith))
 
--- no number; the first of some, where none and where some may be left out; and enough that may be left out
-pub left_empty : (xs : List ℕ) (r : ℕ) → length xs < 1 → 0 ≡ least_left xs r
+-- the sums of no number; those of one more; and one of them
+pub lefts_none : 0 ∷ 0 ∷ 0 ∷ 0 ∷ [] ≡ lefts []
 unfolding least_left
-left_empty [] r h = refl
-left_empty (x ∷ xs) r h = absurd (omega arith)
+lefts_none = refl
 
-pub left_none : (xs : List ℕ) (r : ℕ) → 1 ≤ length xs → r ≡ 0 → get_or xs 0 0 + least_left (drop 1 xs) r ≡ least_left xs r
+pub lefts_one : (x : ℕ) (xs ls : List ℕ) → ls ≡ lefts xs
+    → (x + get_or ls 0 0) ∷ min (x + get_or ls 1 0) (get_or ls 0 0) ∷ min (x + get_or ls 2 0) (get_or ls 1 0) ∷ min (x + get_or ls 3 0) (get_or ls 2 0) ∷ []
+    ≡ lefts (x ∷ xs)
 unfolding least_left
-left_none [] r l h = absurd (omega arith)
-left_none (x ∷ xs) r l h = rw h
+lefts_one x xs ls e = rw e
 
-pub left_some : (xs : List ℕ) (r : ℕ) → 1 ≤ length xs → (r ≡ 0 → ⊥)
-    → min (get_or xs 0 0 + least_left (drop 1 xs) r) (least_left (drop 1 xs) (r - 1)) ≡ least_left xs r
-unfolding least_left
-left_some [] r l h = absurd (omega arith)
-left_some (x ∷ xs) zero l h = absurd (h refl)
-left_some (x ∷ xs) (suc r) l h = let e : suc r - 1 ≡ r = omega arith in rw e
+pub lefts_at : (xs : List ℕ) (r : ℕ) → r < 4 → get_or (lefts xs) r 0 ≡ least_left xs r
+lefts_at xs zero h = refl
+lefts_at xs (suc zero) h = refl
+lefts_at xs (suc (suc zero)) h = refl
+lefts_at xs (suc (suc (suc zero))) h = refl
+lefts_at xs (suc (suc (suc (suc r)))) h = absurd (omega arith)
 
 left_all : (xs : List ℕ) (r : ℕ) → length xs ≤ r → least_left xs r ≡ 0
 unfolding least_left

@@ -1,6 +1,6 @@
 -- How many wanted bits the columns of the wires miss, and a lower bound on the misses where few gates are left. No public contract cites
 -- this.
-use Rattle.std.specs.Prelude.{Bool, List, [], ◌∷◌, ℕ, zero, suc, ◌+◌, min, eqb, leb, get_or}
+use Rattle.std.specs.Prelude.{Bool, List, [], ◌∷◌, ℕ, zero, suc, ◌+◌, ◌≤◌, min, eqb, leb, get_or}
 use Rattle.std.specs.Int.Count.{ones}
 use Rattle.logic.specs.Rules.{both, pick}
 use Rattle.table.specs.layouts.Layouts.{wire_of}
@@ -36,6 +36,14 @@ unfoldable pub least_left : List ℕ → ℕ → ℕ
 least_left [] r = 0
 least_left (x ∷ xs) zero = x + least_left xs zero
 least_left (x ∷ xs) (suc r) = min (x + least_left xs (suc r)) (least_left xs r)
+
+-- the least sums once up to none, one, two and three are left out
+abbrev pub lefts : List ℕ → List ℕ
+lefts xs = least_left xs 0 ∷ least_left xs 1 ∷ least_left xs 2 ∷ least_left xs 3 ∷ []
+
+-- each of four numbers is at most b
+abbrev pub AtMost : ℕ → List ℕ → Type 0
+AtMost b xs = (get_or xs 0 0 ≤ b) × (get_or xs 1 0 ≤ b) × (get_or xs 2 0 ≤ b) × (get_or xs 3 0 ≤ b)
 
 -- a lower bound on the wanted bits missed after up to r more gates: each gives one wire a new column, so that all outputs but r are still
 -- on a column of today

@@ -14,7 +14,8 @@ use Rattle.peephole.proofs.windows.Scans.{nothing_offered, offer_long, is_offere
 use Rattle.peephole.specs.declared.windows.Prices.{Prices}
 use Rattle.peephole.specs.Inner.{offered}
 use Rattle.peephole.proofs.look_at.Goals as goal
-use Rattle.peephole.proofs.look_at.Goals.{In-Found}
+use Rattle.peephole.proofs.look_at.Goals.{In-Ok}
+use Rattle.record.specs.Answers.{number}
 
 -- what is lent is the window's job
 lent : (wires : ℕ) (prices : Prices) (gates job : List ℕ) (k : ℕ) → k ≡ 2 ^ wires → take (12 + 2 ^ wires) job ≡ window_job wires prices gates
@@ -22,31 +23,31 @@ lent : (wires : ℕ) (prices : Prices) (gates job : List ℕ) (k : ℕ) → k �
 lent wires prices gates job k e f = ap (λ (m : ℕ). take (12 + m) job) e ∙ f
 
 -- a circuit was found, and its record stands at the front of the buffer
-told : (c : In-Found)
+told : (c : In-Ok)
     → search_of (window_job c.args.wires c.args.prices c.args.gates.now) 15
-    ≡ answered (record { bytes = take c.in-Found.size c.search.new.answer; measures = c.in-Found.m })
+    ≡ answered (record { bytes = take c.in-Ok.found.size c.search.new.answer; measures = c.in-Ok.found.measures })
 told c =
     sym (ap (λ (j : List ℕ). search_of j 15) (lent c.args.wires c.args.prices c.args.gates.now c.window_job-job.result c.value_count-end.result
     c.value_count-end.ensures.value c.window_job-job.ensures))
-    ∙ when_found (search_of _ 15) c.search.result c.in-Found.size c.in-Found.m _ c.search.new.answer c.search.ensures.result_value
-    c.in-Found.is c.search.ensures.answer_after
+    ∙ when_found (search_of _ 15) c.search.result c.in-Ok.found _ c.search.new.answer c.search.ensures.result_value
+    c.in-Ok.is c.search.ensures.answer_after
 
 pub overflow_sub-result : goal.overflow_sub-result
 overflow_sub-result c =
-    let h : 3 ≤ c.in-Found.size =
-    offer_long c.args.wires c.args.prices c.args.gates.now c.in-Found.size c.in-Found.m c.search.new.answer (told (goal.at.overflow_sub-result c).In-Found) in
+    let h : 3 ≤ c.in-Ok.found.size =
+    offer_long c.args.wires c.args.prices c.args.gates.now c.in-Ok.found.size c.in-Ok.found.measures c.search.new.answer (told (goal.at.overflow_sub-result c).In-Ok) in
     omega arith
 
-pub returns-in-Refused-clause-result_value : goal.returns-in-Refused-clause-result_value
+pub returns-in-Err-clause-result_value : goal.returns-in-Err-clause-result_value
 unfolding offered
-returns-in-Refused-clause-result_value c =
-    nothing_offered c.args.wires c.args.prices c.args.gates.now c.in-Refused.field-0
-    (sym (ap (λ (j : List ℕ). search_of j 15) (lent c.args.wires c.args.prices c.args.gates.now c.window_job-job.result c.value_count-end.result c.value_count-end.ensures.value c.window_job-job.ensures)) ∙ when_refused (search_of _ 15) c.search.result c.in-Refused.field-0 c.search.ensures.result_value c.in-Refused.is)
+returns-in-Err-clause-result_value c =
+    nothing_offered c.args.wires c.args.prices c.args.gates.now (number c.in-Err.field-0)
+    (sym (ap (λ (j : List ℕ). search_of j 15) (lent c.args.wires c.args.prices c.args.gates.now c.window_job-job.result c.value_count-end.result c.value_count-end.ensures.value c.window_job-job.ensures)) ∙ when_refused (search_of _ 15) c.search.result c.in-Err.field-0 c.search.ensures.result_value c.in-Err.is)
 
-pub returns-in-Found-clause-result_value : goal.returns-in-Found-clause-result_value
+pub returns-in-Ok-clause-result_value : goal.returns-in-Ok-clause-result_value
 unfolding offered
-returns-in-Found-clause-result_value c =
+returns-in-Ok-clause-result_value c =
     let limit : c.cost.result ≡ cost_at c.args.prices c.args.gates.now
     = c.cost.ensures ∙ ap (λ (w : Weights). cost (weight_of w) c.args.gates.now) c.weights.ensures in
-    let h : c.in-Found.size ≤ 15 = rw c.in-Found.is at c.search.ensures.result_bound in is_offered c.args.wires c.args.prices c.args.gates.now c.in-Found.size c.in-Found.m
-    c.search.new.answer (told (goal.at.returns-in-Found-clause-result_value c).In-Found) c.cost.result limit
+    is_offered c.args.wires c.args.prices c.args.gates.now c.in-Ok.found.size c.in-Ok.found.measures
+    c.search.new.answer (told (goal.at.returns-in-Ok-clause-result_value c).In-Ok) c.cost.result limit

@@ -9,4 +9,4 @@ returns-then-r-ge4 c = sym (none_needed c.args.t c.args.columns c.args.n c.args.
 
 pub returns : goal.returns
 unfolding missed_at_least
-returns c = c.least_left.ensures.value ∙ (λ i. least_left (c.least_last.ensures.value i ∷ c.least_missed.ensures.value i ∷ c.least_missed-2.ensures.value i ∷ c.least_missed-3.ensures.value i ∷ []) c.args.r)
+returns c = c.least_left.ensures ∙ (λ i. least_left (c.least_last.ensures.value i ∷ c.least_missed.ensures.value i ∷ c.least_missed-2.ensures.value i ∷ c.least_missed-3.ensures.value i ∷ []) c.args.r)

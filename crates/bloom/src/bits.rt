@@ -22,7 +22,8 @@ pub fn lit(bits: &[u64], k: usize) -> bool
     }
 }
 
-// Sets both bits of a place; there is nothing to set past the end.
+// Sets both bits of a place; there is nothing to set past the end. The word is written by its index: of what is written by way of
+// `get_mut` nothing is known.
 fn light(k: usize, bits: &mut [u64])
     ensures bits_len_unchanged { length bits.new ≡ length bits.old }
     ensures grown { Grown bits.old bits.new }

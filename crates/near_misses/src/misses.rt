@@ -23,7 +23,7 @@ fn missed_for(t: Wanted, columns: [u16; 5], p: u8, j: usize) -> usize
     missed_by(t, columns[wire], j)
 }
 
-// How many wanted bits the columns miss under layout `p`, of all outputs.
+// How many wanted bits the columns miss under layout `p`, of all outputs. Written out: of a chain's sum the check does not see that it fits.
 #[tactic(auto, unfolding(crate::specs::misses::Columns::missed_on))]
 fn missed_on(t: Wanted, columns: [u16; 5], p: u8) -> usize
     ensures { result ≡ missed_on t columns p }

@@ -64,7 +64,8 @@ fn sum(n: usize, a: u16, b: u16, c: u16, d: u16) -> usize
     usize::from(logic::picked(n == 4, d, 0) + (c + (b + a)))
 }
 
-// How many outputs are missed on every wire that an allowed layout may give them.
+// How many outputs are missed on every wire that an allowed layout may give them. The four outputs are written out, for speed: constant
+// indices let the compiler keep the columns in registers.
 pub fn missing(t: Wanted, columns: [u16; 5], n: usize, free: usize) -> usize
     requires { Width n }
     ensures value { result ≡ owed t columns n free 4 }

@@ -102,7 +102,7 @@ fn pack(a: u32, b: u32, c: u32, d: u32, e: u32, dirty: u32) -> Plan
     }
 }
 
-// The plan of a state.
+// The plan of a state. The four outputs are written out, for speed: constant indices let the compiler keep the columns in registers.
 pub fn plan_of(t: Wanted, columns: [u16; 5], n: usize, free: usize) -> Plan
     requires { Width n }
     ensures value { result ≡ plan_of t columns n free }

@@ -6,7 +6,7 @@ ghost use Rattle.columns.specs.declared.Wanted.{Wanted};
 ghost use Rattle.outputs.specs.Owed.{Controls, worth};
 ghost use Rattle.outputs.specs.products.Products.{table_of};
 ghost use Rattle.outputs.specs.plan.Plan.{plan_of};
-ghost use Rattle.outputs.specs.worth.Inner.{has_output, has_one, mends_by};
+ghost use Rattle.outputs.specs.worth.Inner.{has_output, has_in, has_one, mends_by};
 
 use crate::plan::Plan;
 use crate::product_step;
@@ -22,12 +22,25 @@ fn has_output(table: &[u16], column: u16, j: usize) -> bool
     (column ^ table[32 + j]) & table[36 + j] == 0
 }
 
-// Whether a column has every wanted bit of some output of the set.
+// Whether output `j` is in the set, and a column has every wanted bit of it; `&` and not `&&`, so that there is no branch.
+fn has_in(table: &[u16], column: u16, set: u32, j: usize) -> bool
+    requires table_len { length table.now ≡ 40 }
+    requires j_bound { j < 4 }
+    ensures { result ≡ has_in table.now column set j }
+{
+    ((set >> j) % 2 == 1) & has_output(table, column, j)
+}
+
+// Whether a column has every wanted bit of some output of the set. The four are written out, for speed: all are tested at once.
+#[tactic(auto, unfolding(crate::specs::worth::Inner::has_one))]
 fn has_one(table: &[u16], column: u16, set: u32) -> bool
     requires { length table.now ≡ 40 }
     ensures { result ≡ has_one table.now column set }
 {
-    (0..4).any(|j| (set >> j) % 2 == 1 && has_output(table, column, j))
+    has_in(table, column, set, 0)
+        | has_in(table, column, set, 1)
+        | has_in(table, column, set, 2)
+        | has_in(table, column, set, 3)
 }
 
 // Whether the new column of the target `w` mends something: it has an output that all other wires miss, or `w` is the ancilla and it is 0.

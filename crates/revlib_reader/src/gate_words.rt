@@ -1,9 +1,10 @@
-// The letters of a gate line: the wires that they name, whether they are in order, and the gate byte that they make.
+// The letters of a gate line: the wires that they name, whether they are in order, and the gate byte that they make. The declared letters
+// are a slice with a bound in `requires`: a type of at most five letters would ask more of callers.
 ghost use Rattle.std.specs.Prelude.{◌≡◌, ◌^◌, ◌≤◌, length};
 ghost use Rattle.logic.specs.Lists.{all_of};
 ghost use Rattle.revlib.specs.Grammar.{is_in, different, declared, line_ok, wire_of, gate_byte};
 
-// Whether a letter is in a list.
+// Whether a letter is in a list: the library's test, with a clause in the words of the theorems on reading.
 pub fn is_in(x: u8, list: &[u8]) -> bool
     ensures { result ≡ is_in x list.now }
 {

@@ -127,7 +127,7 @@ fn dashes_here(s: &[u8], n: usize, end: &[u8]) -> bool
         && keywords::starts(keywords::rest(s, 11 + n), end)
 }
 
-// The bytes at the five places where a declared letter can stand.
+// The bytes at the five places where a declared letter can stand, written out as in its clause.
 #[tactic(auto, unfolding(crate::specs::heading::Inner::five_at))]
 fn names(s: &[u8]) -> [u8; 5]
     ensures { result ≡ five_at s.now }

@@ -11,7 +11,7 @@ pub fn rest(s: &[u8], at: usize) -> &[u8]
     if at <= s.len() { &s[at..] } else { &[] }
 }
 
-// Whether a text begins with a word.
+// Whether a text begins with a word: the library's test, with a clause in the words of the theorems on reading.
 pub fn starts(s: &[u8], word: &[u8]) -> bool
     ensures { result ≡ starts word.now s.now }
 {
@@ -43,7 +43,8 @@ pub fn line_starts(s: &[u8], line: &[u8]) -> bool
     starts(s, &[b't', digit]) && letters_here(rest(s, 2), line)
 }
 
-// How many letters the first word of a gate line announces, where it is `t1`, `t2` or `t3`.
+// How many letters the first word of a gate line announces, where it is `t1`, `t2` or `t3`. A `match` on slice patterns is no plainer: it
+// has a goal for each way past it.
 #[tactic(auto, unfolding(revlib::specs::Reading::announced))]
 pub fn announced(s: &[u8]) -> Option<usize>
     ensures value { result ≡ count_said (announced s.now) }

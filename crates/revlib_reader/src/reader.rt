@@ -8,7 +8,8 @@ use crate::gate_lines;
 use crate::gate_lines::Line;
 use crate::heading::Heading;
 
-// The gate lines of a body that is in order: how many there are, and the gate bytes of the first twelve.
+// The gate lines of a body that is in order: how many there are, and the gate bytes of the first twelve. The count goes on past those, so
+// it is not the length of `gates`.
 #[derive(Clone, Copy)]
 pub struct Body {
     pub count: usize,

@@ -6,7 +6,7 @@ ghost use Rattle.scheduler.specs.candidates.Inner.{at_last, digit, over, bump, a
 ghost use Rattle.scheduler.specs.candidates.Left.{chosen, digits_at};
 
 // The place of a candidate: a list of `len` gates, each given by a digit, its index in the table of gates; and a layout, by its index among
-// those allowed.
+// those allowed. A caller can make any place, so no ghost field bounds `len`: that would ask more of `turn` and `collect`.
 #[derive(Clone, Copy)]
 pub struct Place {
     pub len: usize,

@@ -11,7 +11,7 @@ pub fn key(size: u32, hash: usize) -> usize
 }
 
 // Whether both bits of a place are set. A place past the end counts as set, so no bits at all rule nothing out. Two bits make false
-// positives rarer than one, and since both are in one word, one read gets them. They are joined without a branch, for speed.
+// positives rarer than one, and since both are in one word, one read gets them. `&` and not `&&` joins them, so that there is no branch.
 #[tactic(auto, unfolding(crate::specs::bits::Places::lit_at))]
 pub fn lit(bits: &[u64], k: usize) -> bool
     ensures { result ≡ lit_at bits.now k }

@@ -36,7 +36,7 @@ pub fn word_at(words: [u32; 5], w: usize) -> usize
     if w < 5 { words[w] as usize } else { 0 }
 }
 
-// The hash of the whole state.
+// The hash of the whole state. The terms are written out: a chain's sum of them would want a bound on each element.
 pub fn whole(shares: [u32; 5]) -> usize
     ensures { result ≡ part_of shares 5 5 }
 {

@@ -29,7 +29,7 @@ fn holds(bits: &[u64], size: u32, shares: [u32; 5], a: usize, b: usize) -> bool
     bits::lit(bits, bits::key(size, part(shares, a, b)))
 }
 
-// 1 if at least one of five tests holds, else 0.
+// 1 if at least one of five tests holds, else 0; `|` and not `||`, so that there is no branch.
 fn any_of(a: bool, b: bool, c: bool, d: bool, e: bool) -> usize
     ensures by_index { (f : ℕ → Bool) → a ≡ f 0 → b ≡ f 1 → c ≡ f 2 → d ≡ f 3 → e ≡ f 4 → result ≡ bit (some_below 5 f) }
     ensures upper_bound { result < 2 }
@@ -37,7 +37,8 @@ fn any_of(a: bool, b: bool, c: bool, d: bool, e: bool) -> usize
     usize::from(a | b | c | d | e)
 }
 
-// The wires, a bit each, for which the state without that wire is in the filter.
+// The wires, a bit each, for which the state without that wire is in the filter. Written out and not folded: no lookup waits for another,
+// and the sum shows which bit is whose.
 fn open_alone(bits: &[u64], size: u32, shares: [u32; 5]) -> usize
     ensures { (w : ℕ) → w < 5 → bit_of w result ≡ bit (held bits.now size shares w w) }
 {

@@ -20,7 +20,7 @@ pub struct Plan {
     pub lost: usize,
 }
 
-// The data wires that do not miss output `j`, a bit each.
+// The data wires that do not miss output `j`, a bit each; `&` and not `&&`, so that there is no branch.
 #[tactic(auto, unfolding(crate::specs::plan::Inner::places_of))]
 fn places(t: Wanted, columns: [u16; 5], n: usize, j: usize) -> u16
     ensures { result ≡ places_of t columns n j }

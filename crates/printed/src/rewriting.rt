@@ -5,6 +5,7 @@ ghost use Rattle.text.specs.pieces.Writing.{Wrote};
 ghost use Rattle.peephole.specs.windows.Windows.{cost_at};
 ghost use Rattle.printed.specs.rewriting.Rewriting.{millions, count_line, rewritten_text, prices_in, TellingList};
 
+use circuit::Rate;
 use peephole::listing;
 use peephole::windows::Prices;
 use text::{hex, pieces};
@@ -24,7 +25,7 @@ pub fn list_cost(list: &[u8], prices: Prices) -> usize
 {
     let weights = listing::weights(prices);
     list.iter()
-        .map(|&b| usize::from(circuit::weight(weights, b)))
+        .map(|&b| usize::from(weights.weight(b)))
         .sum()
 }
 

@@ -2,7 +2,7 @@
 // collected, with the number of turns taken by then.
 #![tactic(auto)]
 
-ghost use Rattle.std.specs.Prelude.{◌≡◌, true, List, ℕ, ◌+◌, ◌≤◌, ◌<◌, length, get_or};
+ghost use Rattle.std.specs.Prelude.{◌≡◌, List, ◌≤◌, ◌<◌, length, IfSome};
 ghost use Rattle.text.specs.pieces.Text.{in_front};
 ghost use Rattle.printed.specs.job_line.Lines.{line_of};
 ghost use Rattle.batch.specs.cutting.Records.{count_of};
@@ -12,9 +12,8 @@ ghost use Rattle.slots.specs.Work.{job_of, Kept};
 
 use batch::cutting;
 use console::{input, output, slot_lines};
-use outcomes::Searched;
-use scheduler::states;
-use scheduler::states::{Posting, Service, Slots};
+use record::refusal::Refusal;
+use scheduler::{Slots, start};
 use std::rt::Files;
 
 fn main(rt: HostRuntime) {
@@ -38,23 +37,6 @@ fn run_file(rt: &(impl Files + Print), name: &[u8]) {
     run_jobs(rt, &jobs[..n]);
 }
 
-// How far the work has come: the slots, the next job of the file, the first slot to try for it (8 for none), which job each
-// slot has, the turns taken, and whether all is done.
-#[derive(Clone, Copy)]
-pub struct Work {
-    pub slots: Slots,
-    pub next: usize,
-    pub free: usize,
-    pub owners: [u8; 8],
-    pub turns: u64,
-    pub done: bool,
-}
-
-// One turn more. No run takes 2^64 of them, so the count never stops.
-fn one_more(n: u64) -> u64 {
-    if n < 18446744073709551615 { n + 1 } else { n }
-}
-
 // Says which job was answered, counted from 1, and after how many turns.
 fn say_heading(rt: &impl Print, job: usize, turns: u64) {
     output::say_count(rt, b"job ", job as u64);
@@ -62,189 +44,129 @@ fn say_heading(rt: &impl Print, job: usize, turns: u64) {
     output::say(rt, b": ");
 }
 
-// What follows a refused post: where the slot is taken (36), the next slot is tried; any other refusal is the job's answer.
-fn after_refusal(rt: &impl Print, w: Work, code: u8) -> Work
-    requires { (w.next < 64) × (w.free < 8) }
-    ensures { (result.slots ≡ w.slots) × (result.owners ≡ w.owners) }
-{
-    let mut next = w;
-    if code == 36 {
-        next.free = w.free + 1;
-        return next;
-    }
-    say_heading(rt, w.next + 1, w.turns);
-    slot_lines::say_refused(rt, code);
-    next.next = w.next + 1;
-    next
-}
-
-// Posts the next job to the slot that is to be tried.
-fn post_next(rt: &impl Print, jobs: &[u8], w: Work) -> Work
-    requires { (w.next < count_of jobs.now) × ((w.next < 64) × (w.free < 8)) }
-    ensures { Kept jobs.now w.owners (view_state w.slots)
-        → Kept jobs.now result.owners (view_state result.slots) }
-{
-    let which = w.free;
-    let number = w.next;
-    let place = cutting::record_at(jobs, number);
-    let start = place.start;
-    let end = place.end;
-    let posted = scheduler::post(w.slots, which, &jobs[start..end]);
-    let answer = posted.answer;
-    match answer {
-        Posting::Refused(code) => after_refusal(rt, w, code),
-        Posting::Accepted => {
-            let slots = posted.slots;
-            let mut owners = w.owners;
-            owners[which] = number as u8;
-            let turns = w.turns;
-            Work {
-                slots,
-                next: number + 1,
-                free: which + 1,
-                owners,
-                turns,
-                done: false,
-            }
-        }
-    }
-}
-
-// The slots after one was collected, whether it was finished, and the length of the line that was written then.
-#[derive(Clone, Copy)]
-pub struct Finished {
-    pub slots: Slots,
-    pub done: bool,
-    pub size: usize,
-}
-
-// Collects a slot and, if it is finished, writes the line of its job to the start of `out`. The slot is then free.
-fn finished_line(slots: Slots, which: usize, out: &mut [u8]) -> Finished
+// Collects a slot and, if it is finished, writes the line of its job to the start of `out` and answers how long it is. The slot is then
+// free.
+fn finished_line(slots: &mut Slots, which: usize, out: &mut [u8]) -> Option<usize>
     requires which_bound { which < 8 }
     requires in_bounds { 64 ≤ length out.old }
-    ensures size_bound { result.size ≤ 64 }
-    ensures slots_value { view_state result.slots ≡ after_collect (view_state slots) which 15 }
-    ensures by_index { (jobs owners : List ℕ) → Kept jobs owners (view_state slots) → result.done ≡ true
-        → (result.size ≡ length (line_of (job_of jobs owners which)))
-        × (out.new ≡ in_front (line_of (job_of jobs owners which)) out.old) }
+    ensures size_bound { IfSome result (λ size. size ≤ 64) }
+    ensures slots_value { view_state slots.new ≡ after_collect (view_state slots.old) which 15 }
+    ensures by_index { (jobs owners : List ℕ) → Kept jobs owners (view_state slots.old)
+        → IfSome result (λ size. (size ≡ length (line_of (job_of jobs owners which)))
+        × (out.new ≡ in_front (line_of (job_of jobs owners which)) out.old)) }
 {
     let mut answer = [0u8; 15];
-    let collected = scheduler::collect(slots, which, &mut answer);
-    let left = collected.slots;
-    let told = collected.answer;
-    match told {
-        Searched::Refused(code) => {
-            let size = text::refused_line(code, out);
-            Finished {
-                slots: left,
-                done: code != 37,
-                size,
-            }
+    match slots.collect(which, &mut answer) {
+        Err(Refusal::SlotUnfinished) => None,
+        Err(r) => Some(text::refused_line(u8::from(r), out)),
+        Ok(found) => Some(text::found_line(found.measures, &answer[..found.size], out)),
+    }
+}
+
+// How far the work has come: the slots, the next job of the file, the first slot to try for it (8 for none), which job each slot has, and
+// the turns taken.
+#[derive(Clone, Copy)]
+pub struct Work {
+    pub slots: Slots,
+    pub next: usize,
+    pub free: usize,
+    pub owners: [u8; 8],
+    pub turns: u64,
+}
+
+impl Work {
+    // What follows a refused post: where the slot is taken, the next slot is tried; any other refusal is the job's answer.
+    fn pass_over(&mut self, rt: &impl Print, r: Refusal)
+        requires { (self.old.next < 64) × (self.old.free < 8) }
+        ensures { (self.new.slots ≡ self.old.slots) × (self.new.owners ≡ self.old.owners) }
+    {
+        if r == Refusal::SlotTaken {
+            self.free += 1;
+            return;
         }
-        Searched::Found(n, m) => {
-            let size = text::found_line(m, &answer[..n], out);
-            Finished {
-                slots: left,
-                done: true,
-                size,
-            }
+        say_heading(rt, self.next + 1, self.turns);
+        slot_lines::say_refused(rt, u8::from(r));
+        self.next += 1;
+    }
+
+    // Posts the next job to the slot that is to be tried.
+    fn post_next(&mut self, rt: &impl Print, jobs: &[u8])
+        requires { (self.old.next < count_of jobs.now) × ((self.old.next < 64) × (self.old.free < 8)) }
+        ensures { Kept jobs.now self.old.owners (view_state self.old.slots) → Kept jobs.now self.new.owners (view_state self.new.slots) }
+    {
+        let (which, number) = (self.free, self.next);
+        let place = cutting::record_at(jobs, number);
+        if let Err(r) = self.slots.post(which, &jobs[place.start..place.end]) {
+            self.pass_over(rt, r);
+            return;
         }
+        self.owners[which] = number as u8;
+        self.next = number + 1;
+        self.free = which + 1;
     }
-}
 
-// Collects the answer of the slot that was served, if it is finished, and says it.
-fn collect_served(rt: &impl Print, w: Work, which: usize) -> Work
-    requires { which < 8 }
-    ensures { (jobs : List ℕ) → Kept jobs w.owners (view_state w.slots) → Kept jobs result.owners (view_state result.slots) }
-{
-    let mut out = [0u8; 64];
-    let line = finished_line(w.slots, which, &mut out);
-    let slots = line.slots;
-    let mut next = w;
-    next.slots = slots;
-    if !line.done {
-        return next;
+    // Collects the answer of the slot that was served, if it is finished, and says it.
+    fn collect_served(&mut self, rt: &impl Print, which: usize)
+        requires { which < 8 }
+        ensures { (jobs : List ℕ) → Kept jobs self.old.owners (view_state self.old.slots)
+            → Kept jobs self.new.owners (view_state self.new.slots) }
+    {
+        let mut out = [0u8; 64];
+        let Some(size) = finished_line(&mut self.slots, which, &mut out) else {
+            return;
+        };
+        say_heading(rt, usize::from(self.owners[which]) + 1, self.turns);
+        output::say(rt, &out[..size]);
+        self.free = which;
     }
-    let owners = w.owners;
-    let size = line.size;
-    say_heading(rt, owner_at(owners, which), w.turns);
-    output::say(rt, &out[..size]);
-    next.free = which;
-    next
-}
 
-// The job of a slot, counted from 1.
-fn owner_at(owners: [u8; 8], which: usize) -> usize
-    ensures { which < 8 → result ≡ get_or owners which 0 + 1 }
-{
-    if which < 8 { counted(owners[which]) } else { 0 }
-}
+    // Takes a turn, and answers whether a slot was working. No run takes 2^64 turns, so the count never stops.
+    fn take_turn(&mut self, rt: &impl Print) -> bool
+        ensures { (jobs : List ℕ) → Kept jobs self.old.owners (view_state self.old.slots)
+            → Kept jobs self.new.owners (view_state self.new.slots) }
+    {
+        let Some(i) = self.slots.turn() else {
+            return false;
+        };
+        self.turns = self.turns.saturating_add(1);
+        self.collect_served(rt, i);
+        true
+    }
 
-fn counted(number: u8) -> usize
-    ensures { result ≡ number + 1 }
-{
-    logic::wide(number) + 1
-}
-
-// Takes a turn. Where no slot is working, the work is done.
-fn take_turn(rt: &impl Print, w: Work) -> Work
-    ensures { (jobs : List ℕ) → Kept jobs w.owners (view_state w.slots) → Kept jobs result.owners (view_state result.slots) }
-{
-    let turned = scheduler::turn(w.slots);
-    let slots = turned.slots;
-    let answer = turned.answer;
-    let mut next = w;
-    next.slots = slots;
-    match answer {
-        Service::Idle => {
-            next.done = true;
-            next
+    // Posts the next job, if there is one and a slot to try for it, and else takes a turn; answers whether there is more to do.
+    fn step(&mut self, rt: &impl Print, jobs: &[u8], count: usize) -> bool
+        requires { (count ≡ count_of jobs.now) × (count ≤ 64) }
+        ensures { Kept jobs.now self.old.owners (view_state self.old.slots) → Kept jobs.now self.new.owners (view_state self.new.slots) }
+    {
+        if 8 <= self.free {
+            return self.take_turn(rt);
         }
-        Service::Slot(i) => {
-            next.turns = one_more(w.turns);
-            collect_served(rt, next, i)
+        if count <= self.next {
+            return self.take_turn(rt);
         }
+        self.post_next(rt, jobs);
+        true
     }
-}
-
-// Posts the next job, if there is one and a slot to try for it, and else takes a turn.
-fn step(rt: &impl Print, jobs: &[u8], count: usize, w: Work) -> Work
-    requires { (count ≡ count_of jobs.now) × (count ≤ 64) }
-    ensures { Kept jobs.now w.owners (view_state w.slots)
-        → Kept jobs.now result.owners (view_state result.slots) }
-{
-    if 8 <= w.free {
-        return take_turn(rt, w);
-    }
-    if count <= w.next {
-        return take_turn(rt, w);
-    }
-    post_next(rt, jobs, w)
 }
 
 // Works through jobs that stand back to back, and says the line of each as it is collected.
 fn run_jobs(rt: &impl Print, jobs: &[u8]) {
     let cut = cutting::cut_off(jobs);
     if cut.end != jobs.len() {
-        slot_lines::say_refused(rt, 26);
+        slot_lines::say_refused(rt, u8::from(Refusal::BatchForm));
         return;
     }
-    let slots = states::start();
+    let slots = start();
     let mut work = Work {
         slots,
         next: 0,
         free: 0,
-        owners: [0u8; 8],
+        owners: [0; 8],
         turns: 0,
-        done: false,
     };
-    let mut steps: u64 = 0;
-    while steps < 18446744073709551615 {
-        if work.done {
+    for _step in 0..u64::MAX {
+        if !work.step(rt, jobs, cut.count) {
             return;
         }
-        let next = step(rt, jobs, cut.count, work);
-        work = next;
-        steps += 1;
     }
 }

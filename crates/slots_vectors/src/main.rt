@@ -5,9 +5,7 @@
 ghost use Rattle.std.specs.Prelude.{◌≡◌, length};
 
 use console::{data_lines, output, slot_lines};
-use outcomes::Searched;
-use scheduler::states;
-use scheduler::states::{Posting, Service, Slots};
+use scheduler::{Slots, start};
 use std::rt::Files;
 
 fn main(rt: HostRuntime) {
@@ -22,73 +20,43 @@ fn run_script_file(rt: &(impl Files + Print), name: &[u8]) {
 }
 
 // Posts a job: byte 1 is the slot, byte 2 the length of the job, which stands from byte 4 on.
-fn script_post(rt: &impl Print, slots: Slots, rec: &[u8]) -> Slots
+fn script_post(rt: &impl Print, slots: &mut Slots, rec: &[u8])
     requires { length rec.now ≡ 40 }
 {
-    let which = logic::wide(logic::at(rec, 1));
-    let end = 4 + logic::lesser(logic::wide(logic::at(rec, 2)), 36);
-    let posted = scheduler::post(slots, which, &rec[4..end]);
-    let answer = posted.answer;
-    match answer {
-        Posting::Accepted => output::say(rt, b"accepted\n"),
-        Posting::Refused(code) => slot_lines::say_refused(rt, code),
+    let which = usize::from(logic::at(rec, 1));
+    let end = 4 + usize::from(logic::at(rec, 2)).min(36);
+    match slots.post(which, &rec[4..end]) {
+        Ok(()) => output::say(rt, b"accepted\n"),
+        Err(r) => slot_lines::say_refused(rt, u8::from(r)),
     }
-    posted.slots
 }
 
 // Takes as many turns as byte 2 says, and says which slot each served.
-fn script_turns(rt: &impl Print, slots: Slots, rec: &[u8]) -> Slots {
-    let count = logic::at(rec, 2);
-    let mut now = slots;
-    let mut i = 0;
+fn script_turns(rt: &impl Print, slots: &mut Slots, rec: &[u8]) {
     output::say(rt, b"turns");
-    while i < count {
-        let next = script_turn(rt, now);
-        now = next;
-        i += 1;
-    }
-    output::say(rt, b"\n");
-    now
-}
-
-fn script_turn(rt: &impl Print, slots: Slots) -> Slots {
-    let turned = scheduler::turn(slots);
-    let answer = turned.answer;
-    match answer {
-        Service::Idle => output::say(rt, b" -"),
-        Service::Slot(i) => output::say_count(rt, b" ", i as u64),
-    }
-    turned.slots
-}
-
-// Collects an answer: byte 1 is the slot, byte 2 the room for the answer.
-fn script_collect(rt: &impl Print, slots: Slots, rec: &[u8]) -> Slots {
-    let which = logic::wide(logic::at(rec, 1));
-    let room = logic::lesser(logic::wide(logic::at(rec, 2)), 20);
-    let mut answer = [0u8; 20];
-    collect_into(rt, slots, which, &mut answer[..room])
-}
-
-fn collect_into(rt: &impl Print, slots: Slots, which: usize, answer: &mut [u8]) -> Slots {
-    let collected = scheduler::collect(slots, which, answer);
-    let told = collected.answer;
-    slot_lines::say_answer(rt, told, answer);
-    say_ready(rt, told);
-    collected.slots
-}
-
-// Says the ready times of what was found, on a line of their own.
-fn say_ready(rt: &impl Print, told: Searched) {
-    match told {
-        Searched::Refused(_) => return,
-        Searched::Found(_, m) => {
-            slot_lines::say_ready(rt, m);
-            output::say(rt, b"\n");
+    for _ in 0..logic::at(rec, 2) {
+        match slots.turn() {
+            Some(i) => output::say_count(rt, b" ", i as u64),
+            None => output::say(rt, b" -"),
         }
     }
+    output::say(rt, b"\n");
 }
 
-fn script_call(rt: &impl Print, slots: Slots, rec: &[u8]) -> Slots
+// Collects an answer: byte 1 is the slot, byte 2 the room for the answer. The ready times of what was found are on a line of their own.
+fn script_collect(rt: &impl Print, slots: &mut Slots, rec: &[u8]) {
+    let which = usize::from(logic::at(rec, 1));
+    let room = usize::from(logic::at(rec, 2)).min(20);
+    let mut answer = [0u8; 20];
+    let told = slots.collect(which, &mut answer[..room]);
+    slot_lines::say_answer(rt, told, &answer[..room]);
+    if let Ok(found) = told {
+        slot_lines::say_ready(rt, found.measures);
+        output::say(rt, b"\n");
+    }
+}
+
+fn script_call(rt: &impl Print, slots: &mut Slots, rec: &[u8])
     requires { length rec.now ≡ 40 }
 {
     match logic::at(rec, 0) {
@@ -100,12 +68,8 @@ fn script_call(rt: &impl Print, slots: Slots, rec: &[u8]) -> Slots
 
 // Runs the calls of a script, from eight empty slots on, and says the answer to each.
 fn run_script(rt: &impl Print, script: &[u8]) {
-    let mut slots = states::start();
-    let mut at = 0;
-    while 40 <= script.len() - at {
-        let end = at + 40;
-        let next = script_call(rt, slots, &script[at..end]);
-        slots = next;
-        at = end;
+    let mut slots = start();
+    for rec in script.chunks_exact(40) {
+        script_call(rt, &mut slots, rec);
     }
 }

@@ -1,11 +1,9 @@
 -- The test of one candidate, the best choice after it, and the answer at the end.
-use mathlib.Core.Path.{◌≡◌, refl, sym, ◌∙◌}
+use mathlib.Core.Path.{◌≡◌, sym, ◌∙◌}
 use mathlib.Core.Bool.{true, false}
 use mathlib.Core.List.{List}
 use mathlib.Core.Option as maybe
-use Rattle.std.proofs.Common.{Option, Some, None, Result, Ok, Err}
-use Rattle.std.specs.Option.{MatchOption}
-use Rattle.record.specs.declared.refusal.Refusal.{Refusal}
+use Rattle.std.proofs.Common.{Some}
 use Prim.Native.Nat.{ℕ}
 use lib.ListN.{length, take}
 use Rattle.record.specs.job_fields.Jobs.{price_of, duration_of}
@@ -48,13 +46,3 @@ pub told_held : (job : List ℕ) (b : Best) (m : Measures) → m ≡ measures_of
     → told_of job m (choice b) ≡ outcome_of (own_set job) job (view (Some b))
 unfolding view choice
 told_held job b m e = rw e
-
--- whether a circuit was held, as the call that asks says it
-pub none_held : (o : Option Best) (r : Refusal) → MatchOption o (◌≡◌ {A = Result Best Refusal} (Err r) (Err Refusal.NoCircuit)) (λ b. ◌≡◌ {A = Result Best Refusal} (Err r) (Ok b))
-    → (o ≡ None) × (r ≡ Refusal.NoCircuit)
-none_held None r h = (refl, cc)
-none_held (Some b) r h = cc
-
-pub one_held : (o : Option Best) (b : Best) → MatchOption o (◌≡◌ {A = Result Best Refusal} (Ok b) (Err Refusal.NoCircuit)) (λ a. ◌≡◌ {A = Result Best Refusal} (Ok b) (Ok a)) → o ≡ Some b
-one_held None b h = cc
-one_held (Some a) b h = cc

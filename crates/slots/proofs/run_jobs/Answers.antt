@@ -5,8 +5,8 @@ use Rattle.slots.specs.Work.{Kept}
 use Rattle.slots.proofs.Keeping.{kept_start}
 use Rattle.slots.proofs.run_jobs.Goals as goal
 
-pub loop-steps-init : goal.loop-steps-init
-loop-steps-init g c = (
+pub loop-_step-init : goal.loop-_step-init
+loop-_step-init g c = (
   (c.cut_off-cut.ensures.count_value, c.cut_off-cut.ensures.count_bound),
   subst (λ (t : State). Kept c.args.jobs.now (replicate 8 0) t) (sym c.start-slots.ensures) (kept_start _ _ refl),
 )

@@ -1,12 +1,10 @@
 -- Where the bytes are a batch part i is the line of job i, and else the only part is the refusal.
 use mathlib.Core.Path.{◌≡◌, sym, ap, ◌∙◌}
-use mathlib.Core.List.{List}
-use Prim.Native.Nat.{ℕ, ◌<◌}
+use Prim.Native.Nat.{◌<◌}
 use native.Mathlib.Omega.{arith}
-use lib.ListN.{length}
 use Rattle.batch.specs.cutting.Records.{count_of, job_at}
-use Rattle.text.specs.pieces.Text.{in_front}
 use Rattle.printed.specs.job_line.Lines.{line_of}
+use Rattle.reports.specs.refusal.Report.{refused_text}
 use Rattle.reports.proofs.refusal.Short.{refused_short}
 use Rattle.printed.specs.batch_parts.Parts.{part_at}
 use Rattle.printed.proofs.batch_parts.Parts.{count_whole, line_whole, line_short}
@@ -29,17 +27,12 @@ module _ (c : Then-cut-jobs) where
 pub job_line-requires-clause-i_bound : goal.job_line-requires-clause-i_bound
 job_line-requires-clause-i_bound c = here (goal.at.job_line-requires-clause-i_bound c).Then-cut-jobs
 
-pub returns-then-cut-jobs-clause-out_after : goal.returns-then-cut-jobs-clause-out_after
-returns-then-cut-jobs-clause-out_after c = let e = sym (its_line (goal.at.returns-then-cut-jobs-clause-out_after c).Then-cut-jobs) in c.job_line.ensures.out_after ∙ ap (λ (text : List ℕ). in_front text c.args.out.now) e
+pub returns-then-cut-jobs : goal.returns-then-cut-jobs
+returns-then-cut-jobs c = rw (its_line (goal.at.returns-then-cut-jobs c).Then-cut-jobs) c.job_line.ensures
 
-pub returns-then-cut-jobs-clause-value : goal.returns-then-cut-jobs-clause-value
-returns-then-cut-jobs-clause-value c = let e = sym (its_line (goal.at.returns-then-cut-jobs-clause-value c).Then-cut-jobs) in c.job_line.ensures.value ∙ ap length e
-
-pub returns-else-cut-jobs-clause-value : goal.returns-else-cut-jobs-clause-value
-returns-else-cut-jobs-clause-value c = let e = sym (line_short c.args.jobs.now c.cut_off-cut.result.end c.cut_off-cut.ensures.end_value c.args.i c.if-cut-jobs.false c.requires.i_in_bounds) in c.refused_text.ensures.value ∙ ap length e
-
-pub returns-else-cut-jobs-clause-upper_bound : goal.returns-else-cut-jobs-clause-upper_bound
-returns-else-cut-jobs-clause-upper_bound c = let e = sym (line_short c.args.jobs.now c.cut_off-cut.result.end c.cut_off-cut.ensures.end_value c.args.i c.if-cut-jobs.false c.requires.i_in_bounds) in rw c.refused_text.ensures.value (refused_short 26)
-
-pub returns-else-cut-jobs-clause-out_after : goal.returns-else-cut-jobs-clause-out_after
-returns-else-cut-jobs-clause-out_after c = let e = sym (line_short c.args.jobs.now c.cut_off-cut.result.end c.cut_off-cut.ensures.end_value c.args.i c.if-cut-jobs.false c.requires.i_in_bounds) in c.refused_text.ensures.out_after ∙ ap (λ (text : List ℕ). in_front text c.args.out.now) e
+pub returns-else-cut-jobs : goal.returns-else-cut-jobs
+returns-else-cut-jobs c =
+    let e = line_short c.args.jobs.now c.cut_off-cut.result.end c.cut_off-cut.ensures.end_value c.args.i c.if-cut-jobs.false c.requires.i_in_bounds
+    ∙ ap refused_text (sym c.from.ensures) in
+    let text = c.refused_text.ensures in
+    rw e (record { value = text.value; upper_bound = rw text.value (refused_short c.from.result); out_after = text.out_after })

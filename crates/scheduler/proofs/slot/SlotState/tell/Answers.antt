@@ -12,7 +12,7 @@ use Rattle.scheduler.specs.declared.slot.SlotState.{SlotState}
 use Rattle.scheduler.specs.slot.Slots.{result_of}
 use Rattle.scheduler.specs.slot.View.{job_in, view_slot}
 use Rattle.scheduler.proofs.slot.Slots.{finished_sound, seen, finished_stage}
-use Rattle.scheduler.proofs.slot.Trying.{told_held, none_held, one_held}
+use Rattle.scheduler.proofs.slot.Trying.{told_held}
 use Rattle.scheduler.proofs.slot.SlotState.tell.Goals as goal
 use Rattle.scheduler.proofs.slot.SlotState.tell.Goals.{Start, After-measures_of-measures}
 
@@ -29,20 +29,20 @@ shared_ref_as_front-job c = (finished_sound c.args.self.now c.requires.state_val
 
 pub returns-in_err-best-clause-result_value : goal.returns-in_err-best-clause-result_value
 returns-in_err-best-clause-result_value c =
-    let n = none_held c.args.self.now.best _ c.in_err-best.ensures in
+    let n = c.in_err-best.ensures.err in
     let e = held (goal.at.returns-in_err-best-clause-result_value c).Start ∙ nothing c.args.self.now n.0 in
     let r = n.1 in rw e (search rules)
 
 pub returns-in_err-best-clause-answer_after : goal.returns-in_err-best-clause-answer_after
 returns-in_err-best-clause-answer_after c =
-    let n = none_held c.args.self.now.best _ c.in_err-best.ensures in
+    let n = c.in_err-best.ensures.err in
     let e = held (goal.at.returns-in_err-best-clause-answer_after c).Start ∙ nothing c.args.self.now n.0 in
     sym (ap (λ (o : Answer Found). written o c.args.answer.now) e)
 
 -- the circuit that was held, with its measures
 circuit : (m : After-measures_of-measures) → told_of (job_in m.args.self.now) m.measures_of-measures.result (choice m.in_ok-best.best) ≡ result_of (view_slot m.args.self.now)
 circuit m =
-    let o = one_held m.args.self.now.best _ m.in_ok-best.ensures in
+    let o = m.in_ok-best.ensures.ok in
     told_held (job_in m.args.self.now) m.in_ok-best.best m.measures_of-measures.result (m.measures_of-measures.ensures ∙ ap (λ (l : List ℕ). measures_of (price_of (job_in m.args.self.now)) (duration_of (job_in m.args.self.now)) l) m.gates.ensures)
     ∙ ap (λ (b : Option Best). outcome_of (own_set (job_in m.args.self.now)) (job_in m.args.self.now) (view b)) (sym o)
     ∙ sym (ap result_of (seen m.args.self.now Stage.Finished (finished_stage m.args.self.now m.requires.state_value)))

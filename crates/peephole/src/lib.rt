@@ -18,6 +18,7 @@ ghost use Rattle.peephole.specs.Inner.{offered, Scanned};
 
 use crate::hits::{Hit, Offer};
 use crate::windows::Prices;
+use circuit::Weights;
 use record::refusal::Refusal;
 
 // What the search finds for the gates of a window, where it is cheaper than they are.
@@ -32,7 +33,7 @@ fn look_at(wires: usize, prices: Prices, gates: &[u8]) -> Option<Offer>
     match search::search(&job[..end], &mut bytes) {
         Ok(found) => {
             let len = found.size - 3;
-            if found.measures.cost < circuit::cost(gates, listing::weights(prices)) {
+            if found.measures.cost < circuit::cost(gates, Weights::from(prices)) {
                 Some(Offer { len, bytes })
             } else {
                 None

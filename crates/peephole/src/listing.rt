@@ -14,14 +14,16 @@ use record::refusal::Refusal;
 use text::pieces;
 
 // The prices by kind of gate. No gate here has three controls, so the fourth price is never used.
-pub fn weights(prices: Prices) -> Weights
-    ensures { result ≡ weights prices }
-{
-    Weights {
-        not: prices.not,
-        cnot: prices.cnot,
-        toffoli: prices.toffoli,
-        cccnot: 0,
+impl From<Prices> for Weights {
+    ghost from_gives = { λ p w. w ≡ weights p };
+
+    fn from(prices: Prices) -> Weights {
+        Weights {
+            not: prices.not,
+            cnot: prices.cnot,
+            toffoli: prices.toffoli,
+            cccnot: 0,
+        }
     }
 }
 

@@ -57,11 +57,11 @@ asked c limit e =
 pub returns-then-found-cost : goal.returns-then-found-cost
 unfolding offered
 returns-then-found-cost c =
-    let a = asked (goal.at.returns-then-found-cost c).In-Ok c.cost.result (c.cost.ensures ∙ ap (λ (w : Weights). cost (weight_of w) c.args.gates.now) c.weights.ensures) in
+    let a = asked (goal.at.returns-then-found-cost c).In-Ok c.cost.result (c.cost.ensures ∙ ap (λ (w : Weights). cost (weight_of w) c.args.gates.now) c.from.ensures) in
     rw (lt-ltb c.in-Ok.found.measures.cost c.cost.result c.if-found-cost.true) at a
 
 pub returns-else-found-cost : goal.returns-else-found-cost
 unfolding offered
 returns-else-found-cost c =
-    let a = asked (goal.at.returns-else-found-cost c).In-Ok c.cost.result (c.cost.ensures ∙ ap (λ (w : Weights). cost (weight_of w) c.args.gates.now) c.weights.ensures) in
+    let a = asked (goal.at.returns-else-found-cost c).In-Ok c.cost.result (c.cost.ensures ∙ ap (λ (w : Weights). cost (weight_of w) c.args.gates.now) c.from.ensures) in
     rw (le-ltb c.in-Ok.found.measures.cost c.cost.result c.if-found-cost.false) at a

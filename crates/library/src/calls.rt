@@ -8,6 +8,7 @@ ghost use Rattle.record.specs.Answers.{code_of, reply};
 ghost use Rattle.library.specs.entries.Library.{entries_of, price_in, duration_in, library_sound};
 ghost use Rattle.library.specs.calls.Calls.{job_with_code, search_with_code, circuit_with_code, measures_in, rest_with_code, verify_with};
 
+use crate::entry_measures::{Durations, Prices};
 use crate::{entries, entry_measures};
 use circuit::measures;
 use circuit::measures::Measures;
@@ -27,14 +28,11 @@ fn check_job_with(job: &[u8], library: &[u8]) -> Result<(), Refusal>
 }
 
 // The measures of a gate list at the library's prices and durations.
-#[tactic(auto, unfolding(circuit::specs::measures::Measures::measures_of))]
 pub fn measures_of(library: &[u8], gates: &[u8]) -> Measures
     requires { length gates.now ≤ 255 }
     ensures { result ≡ measures_of (price_in library.now) (duration_in library.now) gates.now }
 {
-    let cost = entry_measures::cost(library, gates);
-    let times = entry_measures::ready_times(library, gates);
-    measures::measures_with(gates.len() as u8, cost, times)
+    measures::measure_list(gates, Prices { library }, Durations { library })
 }
 
 // The measures of a sound circuit at the library's prices and durations.

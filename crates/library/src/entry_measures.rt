@@ -1,12 +1,11 @@
-// The cost and the ready times of a gate list at the prices and durations of a library.
-ghost use Rattle.std.specs.Prelude.{◌≡◌, true, ◌<◌, ◌≤◌, ◌+◌, ◌/◌, length};
+// The prices and durations of gates, as a library lists them.
+ghost use Rattle.std.specs.Prelude.{◌≡◌};
 ghost use Rattle.logic.specs.Lists.{all_of};
-ghost use Rattle.circuit.specs.Measure.{cost, ready_times};
 ghost use Rattle.library.specs.entries.Library.{entries_of, entry_for, price_in, duration_in};
 ghost use Rattle.library.specs.entries.Inner.{timed};
 
 use crate::entries;
-use circuit::timing;
+use circuit::Rate;
 use problem::Entry;
 
 // The first entry of a gate byte, or one with price and duration 0 where the library has none.
@@ -41,26 +40,30 @@ pub fn all_timed(library: &[u8], list: &[u8]) -> bool
     list.iter().all(|&b| timed(library, b))
 }
 
-// The cost of a list at the library's prices.
-pub fn cost(library: &[u8], list: &[u8]) -> u16
-    requires { length list.now ≤ 255 }
-    ensures { result ≡ cost (price_in library.now) list.now }
-{
-    list.iter()
-        .map(|&b| u16::from(entry_for(library, b).price))
-        .sum()
+// The prices of a library's gates.
+#[derive(Clone, Copy)]
+pub struct Prices<'a> {
+    pub library: &'a [u8],
 }
 
-// The ready times of the five wires after a list, at the library's durations.
-pub fn ready_times(library: &[u8], list: &[u8]) -> [u16; 5]
-    requires { length list.now ≤ 255 }
-    ensures { result ≡ ready_times (duration_in library.now) list.now }
-{
-    let mut times = [0u16; 5];
-    for &b in list {
-        let e = entry_for(library, b);
-        let next = timing::hold(gate::decode(b), e.duration, times);
-        times = next;
+impl Rate for Prices<'_> {
+    ghost rate = { λ p. price_in p.library.now };
+
+    fn weight(self, b: u8) -> u8 {
+        entry_for(self.library, b).price
     }
-    times
+}
+
+// The durations of a library's gates.
+#[derive(Clone, Copy)]
+pub struct Durations<'a> {
+    pub library: &'a [u8],
+}
+
+impl Rate for Durations<'_> {
+    ghost rate = { λ d. duration_in d.library.now };
+
+    fn weight(self, b: u8) -> u8 {
+        entry_for(self.library, b).duration
+    }
 }

@@ -4,7 +4,7 @@
 #![tactic(auto)]
 
 pub mod entries; // a library's bytes as entries, and their checks
-pub mod entry_measures; // the cost and the ready times of a gate list by a library
+pub mod entry_measures; // the price and the duration of a gate by a library
 pub mod calls; // `verify_with`, and what `search_with` is made of
 
 ghost use Rattle.std.specs.Prelude.{◌≡◌, ◌≤◌, length, IfOk};

@@ -4,6 +4,7 @@
 // freed at the end set to 0; or a refusal code, 32 to 34, with the list as it was.
 #![tactic(auto)]
 
+pub mod hits; // the gates that take a window's place
 pub mod listing; // what needs no search: the rules of a list, the job of a window, and a window replaced
 pub mod windows; // definitions and theorems: when a window yields, and what a list becomes
 
@@ -15,80 +16,49 @@ ghost use Rattle.peephole.specs.windows.Listings.{rewrite_of, list_left};
 ghost use Rattle.peephole.specs.windows.Inner.{Still};
 ghost use Rattle.peephole.specs.Inner.{offered, Scanned};
 
+use crate::hits::{Hit, Offer};
 use crate::windows::Prices;
+use circuit::Weights;
 use record::refusal::Refusal;
 
-// What the search found for a window: whether it is cheaper than the window, and its record, whose `len` gates begin at byte 3.
-#[derive(Clone, Copy)]
-pub struct Offer {
-    pub cheaper: bool,
-    pub len: usize,
-    pub bytes: [u8; 15],
-}
-
-// The first window that yields: it begins at gate `at`, and the `len` gates from byte 3 on of the record `bytes` replace it. Where no
-// window yields, `found` is false.
-#[derive(Clone, Copy)]
-pub struct Hit {
-    pub found: bool,
-    pub at: usize,
-    pub len: usize,
-    pub bytes: [u8; 15],
-}
-
-// What the search finds for the gates of a window.
-fn look_at(wires: usize, prices: Prices, gates: &[u8]) -> Offer
+// What the search finds for the gates of a window, where it is cheaper than they are.
+fn look_at(wires: usize, prices: Prices, gates: &[u8]) -> Option<Offer>
     requires width { Width wires }
     requires gates_len_bound { length gates.now ≤ 4 }
-    ensures result_value { offered result ≡ better wires prices gates.now }
-    ensures len_bound { result.len ≤ 12 }
+    ensures { offered result ≡ better wires prices gates.now }
 {
     let job = listing::window_job(wires, prices, gates);
     let end = 12 + listing::value_count(wires);
     let mut bytes = [0u8; 15];
     match search::search(&job[..end], &mut bytes) {
-        Ok(found) => Offer {
-            cheaper: found.measures.cost < circuit::cost(gates, listing::weights(prices)),
-            len: found.size - 3,
-            bytes,
-        },
-        Err(_) => Offer {
-            cheaper: false,
-            len: 0,
-            bytes,
-        },
+        Ok(found) => {
+            let len = found.size - 3;
+            if found.measures.cost < circuit::cost(gates, Weights::from(prices)) {
+                Some(Offer { len, bytes })
+            } else {
+                None
+            }
+        }
+        Err(_) => None,
     }
 }
 
 // The first window that yields, of those that begin at gate `from` or later.
-fn next_hit(wires: usize, window: usize, prices: Prices, list: &[u8], from: usize) -> Hit
+fn next_hit(wires: usize, window: usize, prices: Prices, list: &[u8], from: usize) -> Option<Hit>
     requires width { Width wires }
     requires le_window { (1 ≤ window) × (window ≤ 4) }
     requires from_in_bounds { from ≤ length list.now }
     ensures { Still (better wires prices) window from list.now
         → Scanned (better wires prices) window list.now result }
 {
-    let mut i = from;
-    while window <= list.len() - i {
-        let end = i + window;
-        let best = look_at(wires, prices, &list[i..end]);
-        if best.cheaper {
-            let bytes = best.bytes;
-            return Hit {
-                found: true,
-                at: i,
-                len: best.len,
-                bytes,
-            };
+    let end = (list.len() + 1).saturating_sub(window);
+    for at in from..end {
+        let past = at + window;
+        if let Some(offer) = look_at(wires, prices, &list[at..past]) {
+            return Some(Hit { at, offer });
         }
-        i += 1;
     }
-    Hit {
-        found: false,
-        at: 0,
-        len: 0,
-        bytes: [0u8; 15],
-    }
+    None
 }
 
 // Where the scan resumes after a replacement at gate `at`: at the first window that reaches gate `at`. The windows before it are unchanged.
@@ -108,16 +78,11 @@ fn settle(wires: usize, window: usize, prices: Prices, list: &mut [u8]) -> usize
 {
     let mut count = list.len();
     let mut from = 0;
-    loop {
-        let hit = next_hit(wires, window, prices, &list[..count], from);
-        if !hit.found {
-            return count;
-        }
-        let at = hit.at;
-        let bytes = hit.bytes;
-        count = listing::replace(&mut list[..count], window, at, hit.len, bytes);
-        from = resume(at, window);
+    while let Some(hit) = next_hit(wires, window, prices, &list[..count], from) {
+        count = listing::replace(&mut list[..count], window, hit.at, hit.offer.gates());
+        from = resume(hit.at, window);
     }
+    count
 }
 
 // Makes a list cheaper, a window of gates at a time, and returns its new number of gates. The bytes that it no longer needs become 0.

@@ -14,14 +14,16 @@ use record::refusal::Refusal;
 use text::pieces;
 
 // The prices by kind of gate. No gate here has three controls, so the fourth price is never used.
-pub fn weights(prices: Prices) -> Weights
-    ensures { result ≡ weights prices }
-{
-    Weights {
-        not: prices.not,
-        cnot: prices.cnot,
-        toffoli: prices.toffoli,
-        cccnot: 0,
+impl From<Prices> for Weights {
+    ghost from_gives = { λ p w. w ≡ weights p };
+
+    fn from(prices: Prices) -> Weights {
+        Weights {
+            not: prices.not,
+            cnot: prices.cnot,
+            toffoli: prices.toffoli,
+            cccnot: 0,
+        }
     }
 }
 
@@ -84,17 +86,15 @@ fn close_gap(list: &mut [u8], to: usize, from: usize)
     }
 }
 
-// Puts the first `len` gates of a record in place of a window, closes the gap, and returns the new number of gates. The bytes past them are
-// stale.
-pub fn replace(list: &mut [u8], window: usize, at: usize, len: usize, bytes: [u8; 15]) -> usize
+// Puts gates in place of a window, closes the gap, and returns the new number of gates. The bytes past them are stale.
+pub fn replace(list: &mut [u8], window: usize, at: usize, gates: &[u8]) -> usize
     requires window_in_bounds { at + window ≤ length list.old }
-    requires len_le_window { (len ≤ window) × (len ≤ 12) }
-    ensures value { result ≡ length list.old - (window - len) }
-    ensures list_after { take result list.new ≡ spliced window at (take len (drop 3 bytes)) list.old }
+    requires len_le_window { length gates.now ≤ window }
+    ensures value { result ≡ length list.old - (window - length gates.now) }
+    ensures list_after { take result list.new ≡ spliced window at gates.now list.old }
 {
-    let end = 3 + len;
     let from = at + window;
-    let to = pieces::put_text(list, at, &bytes[3..end]);
+    let to = pieces::put_text(list, at, gates);
     close_gap(list, to, from);
     to + (list.len() - from)
 }

@@ -5,8 +5,7 @@ ghost use Rattle.text.specs.pieces.Writing.{Wrote};
 ghost use Rattle.peephole.specs.windows.Windows.{cost_at};
 ghost use Rattle.printed.specs.rewriting.Rewriting.{millions, count_line, rewritten_text, prices_in, TellingList};
 
-use circuit::Rate;
-use peephole::listing;
+use circuit::{Rate, Weights};
 use peephole::windows::Prices;
 use text::{hex, pieces};
 
@@ -23,10 +22,8 @@ pub fn list_cost(list: &[u8], prices: Prices) -> usize
     requires { length list.now ≤ 65536 }
     ensures { result ≡ cost_at prices list.now }
 {
-    let weights = listing::weights(prices);
-    list.iter()
-        .map(|&b| usize::from(weights.weight(b)))
-        .sum()
+    let weights = Weights::from(prices);
+    list.iter().map(|&b| usize::from(weights.weight(b))).sum()
 }
 
 // Writes a number below 10,000,000, and answers the index after it.

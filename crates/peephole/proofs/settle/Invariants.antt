@@ -7,10 +7,10 @@ use Rattle.peephole.specs.windows.Windows.{cost_at, better, rewritten}
 use Rattle.peephole.specs.windows.Inner.{Still}
 use Rattle.peephole.proofs.settle.Given as goal
 
-abbrev pub invariant-loop-prices : goal.invariant-loop-prices
-invariant-loop-prices l = (l.count ≤ length l.list) × ((length l.list ≡ length l.initial.list) × ((l.from ≤ l.count)
+abbrev pub invariant-loop-hit : goal.invariant-loop-hit
+invariant-loop-hit l = (l.count ≤ length l.list) × ((length l.list ≡ length l.initial.list) × ((l.from ≤ l.count)
     × ((rewritten l.wires l.window l.prices (take l.count l.list) ≡ rewritten l.wires l.window l.prices l.initial.list)
     × Still (better l.wires l.prices) l.window l.from (take l.count l.list))))
 
-abbrev pub decreases-loop-prices : goal.decreases-loop-prices
-decreases-loop-prices l = cost_at l.prices (take l.count l.list)
+abbrev pub decreases-loop-hit : goal.decreases-loop-hit
+decreases-loop-hit l = cost_at l.prices (take l.count l.list)

@@ -8,13 +8,20 @@ ghost use Rattle.near_misses.specs.near_offer.Loose.{loosened};
 
 use crate::near_offer;
 use outputs::product_table;
-use problem::order::Best;
 use problem::Entry;
+use problem::order::Best;
 use walk::advance;
 use walk::node::{Least, Node, Task};
 
 // The incumbent once every list was looked at that begins with the node's and goes on by at most `remaining` gates, none of them needless.
-fn dfs(entries: &[Entry], task: Task, s: Node, remaining: usize, k: usize, best: Option<Best>) -> Option<Best>
+fn dfs(
+    entries: &[Entry],
+    task: Task,
+    s: Node,
+    remaining: usize,
+    k: usize,
+    best: Option<Best>,
+) -> Option<Best>
     requires known { OnWires entries.now }
     requires fair { Fair task }
     requires remaining_bound { s.len + remaining ≤ 12 }

@@ -1,8 +1,8 @@
 // Which lines are calls, and how the answers of calls are said.
 use circuit::measures::Measures;
 use console::{data_lines, output, slot_lines};
-use parity::TableParity;
 use outcomes::Reported;
+use parity::TableParity;
 use record::refusal::Refusal;
 
 // The words of a line that is a call: its name, and up to three words that write bytes.

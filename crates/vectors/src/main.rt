@@ -214,9 +214,11 @@ fn say_rewrite(rt: &impl Print, setting: &[u8], gates: &[u8], size: &[u8]) {
     let prices = rewriting::prices_in(setting);
     let wires = logic::at(setting, 0);
     let window = logic::at(setting, 1);
-    say_answer(rt, peephole::rewrite(wires, window, prices, list), |count| {
-        output::say_count(rt, b"gates ", count as u64)
-    });
+    say_answer(
+        rt,
+        peephole::rewrite(wires, window, prices, list),
+        |count| { output::say_count(rt, b"gates ", count as u64) },
+    );
     output::say(rt, b" ");
     data_lines::say_bytes(rt, list);
 }

@@ -21,11 +21,11 @@ pub loop-i-preserved : goal.loop-i-preserved
 loop-i-preserved c =
     let h = c.loop-i-test.true in
     let n = c.layout_count-count.ensures in
-      λ P asks at.
-          layouts_turn (within (loosened c.args.task c.args.k P) c.args.task.cost_limit) (choice_of P (list_of c.args.s)) (layouts_for c.args.task.outputs c.args.task.free) c.loop-i.i
-          (view c.args.best) (view c.loop-i.b) (view c.try_layout-b.result) (omega arith) (c.loop-i.invariant P asks at)
-          (c.try_layout-b.ensures P asks at
-          ∙ ap (λ (q : ℕ). attempt (within (loosened c.args.task c.args.k P) c.args.task.cost_limit) (view c.loop-i.b) (choice_of P (list_of c.args.s) q)) c.layout_at-p.ensures)
+    λ P asks at.
+    layouts_turn (within (loosened c.args.task c.args.k P) c.args.task.cost_limit) (choice_of P (list_of c.args.s)) (layouts_for c.args.task.outputs c.args.task.free) c.loop-i.i
+    (view c.args.best) (view c.loop-i.b) (view c.try_layout-b.result) (omega arith) (c.loop-i.invariant P asks at)
+    (c.try_layout-b.ensures P asks at
+    ∙ ap (λ (q : ℕ). attempt (within (loosened c.args.task c.args.k P) c.args.task.cost_limit) (view c.loop-i.b) (choice_of P (list_of c.args.s) q)) c.layout_at-p.ensures)
 
 pub returns : goal.returns
 returns c =

@@ -77,18 +77,18 @@ module _ (t : ℕ) (c : Joined-hopeful t) where
   turn =
       elim c.if-hopeful.branch [
         | then-hopeful w ↦ (
-          λ P posed at.
-              let is = tried_is P posed in
-              let f = w.advance-node.ensures.follows P posed.asks at is c.table_of-table.ensures in
-              ap view w.b-is
-              ∙ w.dfs-b.ensures P posed f.at
-              ∙ ap (λ (l : List ℕ). tried_under needless (loose P) limit l rest (view c.loop-entry.b)) f.longer
-              ∙ by_entering needless (loose P) limit (list_of node) rest entry.gate (view c.loop-entry.b)
-              (c.hopeful.ensures.gate_value P posed.asks at is c.table_of-table.ensures w.if-hopeful.true)
-        )
+            λ P posed at.
+            let is = tried_is P posed in
+            let f = w.advance-node.ensures.follows P posed.asks at is c.table_of-table.ensures in
+            ap view w.b-is
+            ∙ w.dfs-b.ensures P posed f.at
+            ∙ ap (λ (l : List ℕ). tried_under needless (loose P) limit l rest (view c.loop-entry.b)) f.longer
+            ∙ by_entering needless (loose P) limit (list_of node) rest entry.gate (view c.loop-entry.b)
+            (c.hopeful.ensures.gate_value P posed.asks at is c.table_of-table.ensures w.if-hopeful.true)
+            )
         | else-hopeful w ↦ (
-          λ P posed at. ap view w.b-is ∙ c.hopeful.ensures.best_value P posed.asks at (tried_is P posed) c.table_of-table.ensures w.if-hopeful.false
-        )
+            λ P posed at. ap view w.b-is ∙ c.hopeful.ensures.best_value P posed.asks at (tried_is P posed) c.table_of-table.ensures w.if-hopeful.false
+            )
       ]
 
 pub loop-entry-preserved : goal.loop-entry-preserved

@@ -21,7 +21,8 @@ LIST_BEGINS, LIST_ENDS = "<!-- reading order -->", "<!-- end of the reading orde
 
 # the public calls: crate, file of src/, functions
 CALLS = [
-    ("record", "lib", "check_job check_circuit"),
+    ("record", "lib", "check_job"),
+    ("record", "circuit_rules", "check_circuit"),
     ("verify", "lib", "measure verify"),
     ("verify", "runs", "run_forwards run_backwards"),
     ("parity", "lib", "parity"),
@@ -131,8 +132,9 @@ def spelled(mentioned, known):
 
 def contracts(text, function):
     """The requires and the ensures of a function: pairs of the keyword and the text."""
-    start = re.search(rf"^pub fn {function}\b", text, re.M).start()
-    return CONTRACT.findall(text[start:text.index("\n{", start)])
+    start = re.search(rf"^ *pub fn {function}\b", text, re.M).start()
+    end = re.compile(r"\n *\{").search(text, start).start()
+    return CONTRACT.findall(re.sub(r"^    (?= )", "", text[start:end], flags=re.M) if text[start] == " " else text[start:end])
 
 
 def starts(table):

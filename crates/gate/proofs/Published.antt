@@ -2,7 +2,7 @@
 -- bits of a value only, so computing 32 masks on 32 values proves it for all values.
 use mathlib.Core.Path.{◌≡◌, refl, sym, ap, ap₂, ◌∙◌}
 use mathlib.Core.Bool.{Bool, true, false}
-use Prim.Native.Nat.{ℕ, zero, suc, ◌*◌, ◌%◌, ◌^◌, ◌≤◌, ◌<◌}
+use Prim.Native.Nat.{ℕ, zero, suc, ◌*◌, ◌/◌, ◌%◌, ◌^◌, ◌≤◌, ◌<◌}
 use native.Mathlib.Nat.{mod-eq_of_lt, lt_of_lt_of_le}
 use native.Mathlib.Omega.{arith}
 use borrow.Author.Tests.{eqb-true, ltb-true, le-leb, eq-eqb, ne_eqb}
@@ -80,6 +80,13 @@ pub by_kind : (b v : ℕ) → ones (mask_of b) ≤ 3 → step b v ≡ bit_xor v 
 unfolding step
 by_kind b v few =
     flipped (fires (mask_of b) v) v (target_of b) ∙ ap (λ (x : ℕ). bit_xor v (x * 2 ^ target_of b)) (fire_bit (mask_of b) v (omega arith) few)
+
+-- an arm of the code: it is the step if it adds what the kind with n controls adds
+pub arm : (b v x n r : ℕ) → x ≡ b → n ≤ 3 → ones (mask_of b) ≡ n → r ≡ bit_xor v (added (kind_for n (mask_of b)) v * 2 ^ (x / 32)) → r ≡ step b v
+arm b v x n r e few h q =
+    q
+    ∙ ap (λ (y : ℕ). bit_xor v (added (kind_for n (mask_of b)) v * 2 ^ (y / 32))) e
+    ∙ sym (by_kind b v (omega arith) ∙ ap (λ (k : ℕ). bit_xor v (added (kind_for k (mask_of b)) v * 2 ^ target_of b)) h)
 
 abbrev right_bit : ℕ → ℕ → ℕ → Bool
 right_bit b v w = eqb (bit_of w (step b v)) (published b v w)

@@ -1,6 +1,6 @@
 -- The number 11 is never given (change request 9): not by the checks of a job or a circuit, nor by the codes that running, measuring and
 -- searching put together from them. Then the laws that carry this to what a call answers.
-use mathlib.Core.Path.{◌≡◌}
+use mathlib.Core.Path.{◌≡◌, refl}
 use mathlib.Core.Bool.{Bool, true, false}
 use mathlib.Core.List.{List}
 use Prim.Native.Nat.{ℕ, ◌^◌}
@@ -14,7 +14,10 @@ use Rattle.record.specs.JobRules.{job_length_ok, size_ok, head_ok, limit_ok, dur
 use Rattle.record.specs.job_fields.Jobs.{wires}
 use Rattle.record.specs.circuit_rules.CircuitRules.{circuit_code}
 use Rattle.record.specs.pair_codes.Codes.{run_code, same_wires, mark_fits, circuit_code_for, measure_code, search_code}
-use Rattle.record.specs.Answers.{check_of}
+use Rattle.std.specs.Prelude.{Result, Ok, Err}
+use Rattle.record.specs.declared.refusal.Refusal.{Refusal}
+use Rattle.record.specs.Answers.{code_of, reply, check_of}
+use Rattle.record.proofs.Refusals.{refused_first}
 use Rattle.record.proofs.circuit_rules.Eleven.{circuit_never}
 
 pub job_never : (job : List ℕ) → job_code job ≡ 11 → ⊥
@@ -48,7 +51,12 @@ unfolding search_code
 search_code_never job room =
     and_then_never 11 (job_code job) _ (job_never job) (rule_never 11 (leb 15 room) 13 0 (λ e. omega arith) (λ e. omega arith))
 
--- `check_job` and `check_circuit`
+-- what a check answers, by the code that its contract gives
+pub check_is : (r : Result (Unit {0}) Refusal) (code : ℕ) → code_of r ≡ code → reply r ≡ check_of code
+check_is (Ok tt) code h = rw (← h) refl
+check_is (Err r) code h = refused_first r code h tt
+
+-- `check_job` and `check_circuit`: their contracts give these codes, so `check_is` makes of them what the calls answer
 pub check_job_never : (job : List ℕ) → check_of (job_code job) ≡ refused 11 → ⊥
 check_job_never job h = job_never job (refused_is (job_code job) tt 11 h)
 

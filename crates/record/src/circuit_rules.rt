@@ -57,3 +57,10 @@ pub fn check_circuit(c: &[u8]) -> Result<(), Refusal>
     refusal::kept(count_ok(c), Refusal::GateCount)?;
     refusal::kept(gates_ok(c), Refusal::UnlawfulGate)
 }
+
+// The code of the first rule that a circuit breaks, or 0.
+pub fn circuit_code(c: &[u8]) -> u8
+    ensures { result ≡ circuit_code c.now }
+{
+    refusal::code(check_circuit(c))
+}

@@ -89,3 +89,10 @@ pub fn check_job(job: &[u8]) -> Result<(), Refusal>
     refusal::kept(durations_ok(job), Refusal::Duration)?;
     refusal::kept(rows_ok(job), Refusal::Row)
 }
+
+// The code of the first rule that a job breaks, or 0 for a well-formed job.
+pub fn job_code(job: &[u8]) -> u8
+    ensures { result ≡ job_code job.now }
+{
+    refusal::code(check_job(job))
+}

@@ -1,6 +1,6 @@
 // Why a call was refused: the first rule that was broken. Documents 01 and 02 number the rules, and `u8::from` gives the number.
 ghost use Rattle.std.specs.Prelude.{◌≡◌, true, false, IfOk, IfErr};
-ghost use Rattle.record.specs.Answers.{number};
+ghost use Rattle.record.specs.Answers.{number, code_of};
 
 // The number 11 is reserved and unused.
 #[derive(Clone, Copy, Debug, PartialEq, Eq)]
@@ -58,4 +58,14 @@ pub fn kept(holds: bool, otherwise: Refusal) -> Result<(), Refusal>
     ensures err { IfErr result (λ e. (holds ≡ false) × (e ≡ otherwise)) }
 {
     if holds { Ok(()) } else { Err(otherwise) }
+}
+
+// The number of the first rule broken, or 0 where all were kept.
+pub fn code(checked: Result<(), Refusal>) -> u8
+    ensures { result ≡ code_of checked }
+{
+    match checked {
+        Ok(()) => 0,
+        Err(broken) => u8::from(broken),
+    }
 }

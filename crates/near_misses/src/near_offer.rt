@@ -3,7 +3,7 @@ ghost use Rattle.std.specs.Prelude.{◌≡◌, true, false, ◌+◌, ◌≤◌, 
 ghost use Rattle.gate.specs.Gates.{target_of};
 ghost use Rattle.table.specs.layouts.Layouts.{Width};
 ghost use Rattle.problem.specs.order.Choices.{attempt, improve};
-ghost use Rattle.problem.specs.order.View.{view};
+ghost use Rattle.problem.specs.order.View.{view, viewed};
 ghost use Rattle.problem.specs.Problems.{Problem, choice_of, here, within};
 ghost use Rattle.problem.specs.pruned.Pruned.{tried_by};
 ghost use Rattle.outputs.specs.products.Products.{table_of};
@@ -13,6 +13,7 @@ ghost use Rattle.near_misses.specs.near_offer.Loose.{loosened};
 use crate::{fewest, misses};
 use circuit::timing;
 use outputs::product_step;
+use problem::incumbent::Incumbent;
 use problem::order::Best;
 use problem::{Entry, best};
 use table::layouts;
@@ -80,21 +81,22 @@ pub fn consider_near(task: Task, s: Node, k: usize, best: Option<Best>) -> Optio
 }
 
 // Whether a gate at a node, with up to `rest` gates after it, can lead to a list that changes the incumbent.
-pub fn hopeful(
+pub fn hopeful<H: Incumbent>(
     table: &[u16],
     task: Task,
     s: Node,
     entry: Entry,
     rest: usize,
     k: usize,
-    best: Option<Best>,
+    best: Option<H>,
 ) -> bool
     requires table_len { (length table.now ≡ 40) × (target_of entry.gate < 5) }
     requires fair { Fair task × (s.len < 12) }
     requires small { Small s }
     ensures best_value { (P : Problem) → Asks P task → At P s → Lists P entry
         → table.now ≡ table_of task.controls task.wanted s.columns → result ≡ false
-        → view best ≡ tried_by needless (loosened task k P) task.cost_limit (list_of s) rest entry.gate (view best) }
+        → viewed H.stands_for best
+        ≡ tried_by needless (loosened task k P) task.cost_limit (list_of s) rest entry.gate (viewed H.stands_for best) }
     ensures gate_value { (P : Problem) → Asks P task → At P s → Lists P entry
         → table.now ≡ table_of task.controls task.wanted s.columns → result ≡ true
         → needless (list_of s) entry.gate ≡ false }

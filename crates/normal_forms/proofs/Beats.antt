@@ -22,7 +22,7 @@ use Rattle.circuit.proofs.Times.{Sooner, length_hold, hold_rises, length_ready, 
 use Rattle.circuit.proofs.run.Reversal.{columns_length}
 use Rattle.problem.specs.order.Choices.{lex_less, before}
 use Rattle.problem.proofs.order.Order.{lex_lt, lex_eq, by_bytes}
-use Rattle.problem.proofs.order.Held.{by_fewer}
+use Rattle.problem.proofs.order.Left.{by_fewer}
 use Rattle.problem.specs.Problems.{Problem, choice_of}
 use Rattle.normal_forms.specs.Forms.{commuting, disjoint}
 use Rattle.normal_forms.proofs.Wires.{Apart, commuting_self, commute_of, apart_of, commute_apart}

@@ -14,7 +14,7 @@ use Rattle.problem.specs.order.Choices.{Choice, under}
 use Rattle.problem.specs.order.View.{choice, view}
 use Rattle.problem.proofs.order.First.{found, nothing}
 use Rattle.problem.proofs.order.Order.{by_cost}
-use Rattle.problem.proofs.order.Held.{by_fewer}
+use Rattle.problem.proofs.order.Left.{by_fewer}
 use Rattle.problem.proofs.order.Deepening.{exhausted, settled}
 use Rattle.problem.specs.Problems.{Problem, here, choices, within, good, first_good}
 use Rattle.problem.specs.Inner.{looked_under, Past, Dearer, Shortest}
@@ -74,16 +74,21 @@ module _ (P : Problem) where
   pub past_below : (limit lower g : ℕ) → lower ≤ limit → Past P limit g → Past P lower g
   past_below limit lower g k past = record { gates_least = λ a m h c. past.gates_least a m h (omega arith) }
 
-  -- a search found something, with the fewest gates
+  -- a search found something, with the fewest gates: any choice, of any length
+  pub shortest_choice : (limit g : ℕ) (d : Choice) → limit ≤ P.most_cost → g ≤ P.most_gates
+      → some d ≡ looked_under P limit [] g none → Past P limit g → Shortest P limit (some d) d.gates
+  shortest_choice limit g d hl hg e past =
+      let o = fits P limit g hl hg d e in
+      let n = past.gates_least d o.0.0 o.0.1 o.1.0 in
+      let k = o.1.1 in
+      let q : g ≡ d.gates = omega arith in
+      record { finds = e ∙ ap (λ (k : ℕ). looked_under P limit [] k none) q; few = rw (← q) hg; past = rw (← q) past }
+
+  -- the same of what the code holds
   pub shortest : (limit g : ℕ) (b : Best) → limit ≤ P.most_cost → g ≤ P.most_gates
       → view (Some b) ≡ looked_under P limit [] g none → Past P limit g → Shortest P limit (view (Some b)) b.len
   unfolding view choice
-  shortest limit g b hl hg e past =
-      let o = fits P limit g hl hg (choice b) e in
-      let n = past.gates_least (choice b) o.0.0 o.0.1 o.1.0 in
-      let k = o.1.1 in
-      let q : g ≡ b.len = omega arith in
-      record { finds = e ∙ ap (λ (k : ℕ). looked_under P limit [] k none) q; few = rw (← q) hg; past = rw (← q) past }
+  shortest limit g b hl hg e past = shortest_choice limit g (choice b) hl hg e past
 
   -- no search finds anything
   pub never : Past P P.most_cost (P.most_gates + 1) → first_good P ≡ none
@@ -92,17 +97,25 @@ module _ (P : Problem) where
       let i = listed P [] P.most_gates a m in
       omega (arith, past.gates_least a m h (within_parts P P.most_cost a h).1.0, gates_are P P.most_gates a i, i.short))
 
-  module _ (limit : ℕ) (b : Best) (hl : limit ≤ P.most_cost) (first : Shortest P limit (view (Some b)) b.len) where
-    -- what was found is the answer, once nothing good is cheaper
-    pub final : (c : ℕ) → Dearer P c → b.cost ≤ c → view (Some b) ≡ first_good P
-    unfolding view choice
-    final c dear k =
-        answer P limit b.len hl first.few (choice b) first.finds (record { cost_least = λ a m h. omega (arith, dear.cost_least a m h) })
+  module _ (limit : ℕ) (d : Choice) (hl : limit ≤ P.most_cost) (first : Shortest P limit (some d) d.gates) where
+    -- what was found, of any length, is the answer, once nothing good is cheaper
+    pub final_choice : (c : ℕ) → Dearer P c → d.cost ≤ c → some d ≡ first_good P
+    final_choice c dear k =
+        answer P limit d.gates hl first.few d first.finds (record { cost_least = λ a m h. omega (arith, dear.cost_least a m h) })
 
     -- it costs no more than the limit
+    pub held_cost : d.cost ≤ limit
+    held_cost = (fits P limit d.gates hl first.few d first.finds).1.0
+
+  -- the same of what the code holds
+  module _ (limit : ℕ) (b : Best) (hl : limit ≤ P.most_cost) (first : Shortest P limit (view (Some b)) b.len) where
+    pub final : (c : ℕ) → Dearer P c → b.cost ≤ c → view (Some b) ≡ first_good P
+    unfolding view choice
+    final = final_choice limit (choice b) hl first
+
     pub found_cost : b.cost ≤ limit
     unfolding view choice
-    found_cost = (fits P limit b.len hl first.few (choice b) first.finds).1.0
+    found_cost = held_cost limit (choice b) hl first
 
   -- nothing good costs at most c
   pub dearer : (c : ℕ) → ((a : Choice) → Memᴰ a (choices P) → good P a ≡ true → a.cost ≤ c → ⊥) → Dearer P (c + 1)

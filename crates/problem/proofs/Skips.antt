@@ -3,8 +3,7 @@
 use mathlib.Core.Path.{◌≡◌, refl, sym, ap, ◌∙◌}
 use mathlib.Core.Bool.{Bool, true, false}
 use mathlib.Core.List.{List, [], ◌∷◌, ◌++◌, append_assoc, Memᴰ}
-use mathlib.Core.Option.{Option}
-use Rattle.std.specs.Prelude.{Some}
+use mathlib.Core.Option.{Option, some}
 use Prim.Native.Nat.{ℕ, suc, ◌-◌, ◌≤◌, ◌<◌}
 use native.Mathlib.Omega.{arith}
 use borrow.Author.Tests.{leb-true, leb-false}
@@ -14,11 +13,9 @@ use Rattle.logic.specs.Lists.{Among}
 use Rattle.logic.proofs.Members.{among_cons}
 use Rattle.circuit.specs.Measure.{cost, depth}
 use Rattle.circuit.proofs.Prefix.{gates_front, cost_front, depth_front}
-use Rattle.problem.specs.declared.order.Best.{Best}
 use Rattle.problem.specs.order.Choices.{Choice, attempt, improve, under}
-use Rattle.problem.specs.order.View.{view}
 use Rattle.problem.proofs.order.First.{attempt_not, improve_skip, left_later}
-use Rattle.problem.proofs.order.Held.{dearer_left, longer_left}
+use Rattle.problem.proofs.order.Left.{dearer_left, longer_left}
 use Rattle.problem.specs.Problems.{Problem, choice_of, here, within}
 use Rattle.problem.specs.Inner.{looked_under, Enough}
 use Rattle.problem.proofs.Listed.{listed, dear, deep, unrealized}
@@ -47,21 +44,21 @@ module _ (P : Problem) (limit : ℕ) (l : List ℕ) (k : ℕ) where
       skip_all x (λ e p a m short.
       attempt_not (within P limit) x (choice_of P (l ++ e) p) (deep P limit (choice_of P (l ++ e) p) (omega (arith, depth_front P.price P.duration l e))))
 
-  module _ (b : Best) where
+  module _ (d : Choice) where
     -- a list that costs more than the best never comes before it
-    pub cut_cost : b.cost < cost P.price l → looked_under P limit l k (view (Some b)) ≡ view (Some b)
+    pub cut_cost : d.cost < cost P.price l → looked_under P limit l k (some d) ≡ some d
     unfolding choice_of
     cut_cost h =
-        skip_all (view (Some b)) (λ e p a m short.
-        dearer_left (within P limit) (choice_of P (l ++ e) p) b (omega (arith, cost_front P.price P.duration l e)))
+        skip_all (some d) (λ e p a m short.
+        dearer_left (within P limit) (choice_of P (l ++ e) p) d (omega (arith, cost_front P.price P.duration l e)))
 
     -- nor does one that costs as much and is longer; one of equal length may still win by depth, layout or bytes
-    pub cut_gates : b.cost ≡ cost P.price l → b.len < length l → looked_under P limit l k (view (Some b)) ≡ view (Some b)
+    pub cut_gates : d.cost ≡ cost P.price l → d.gates < length l → looked_under P limit l k (some d) ≡ some d
     unfolding choice_of
-    cut_gates e g =
-        skip_all (view (Some b)) (λ d p a m short.
-        longer_left (within P limit) (choice_of P (l ++ d) p) b (omega (arith, cost_front P.price P.duration l d))
-        (omega (arith, gates_front P.price P.duration l d)))
+    cut_gates h g =
+        skip_all (some d) (λ e p a m short.
+        longer_left (within P limit) (choice_of P (l ++ e) p) d (omega (arith, cost_front P.price P.duration l e))
+        (omega (arith, gates_front P.price P.duration l e)))
 
 -- what cannot be finished within the gates that can still come leaves what is held
 module _ (P : Problem) (limit : ℕ) (l : List ℕ) (remaining most : ℕ) (held : Option Choice) (enough : Enough P limit l remaining most held) where

@@ -3,4 +3,4 @@ pub mod First
 pub mod Enumeration
 pub mod Deepening
 pub mod Bytewise
-pub mod Held
+pub mod Left

@@ -4,6 +4,7 @@
 #![tactic(auto)]
 
 pub mod best; // the incumbent, and what becomes of it when a circuit is offered
+pub mod incumbent; // what a search reads of the incumbent: its cost and length
 pub mod order; // the order of choices, and the list of all of them
 pub mod pruned; // the choices that are left where gates are skipped, and why the answer is among them
 

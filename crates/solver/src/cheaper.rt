@@ -19,6 +19,7 @@ use walk::node::Setup;
 
 // The first good choice, where its cost is one of `costs`; else nothing is found. The sums of prices are marked in `sums`, as far as there
 // is room for them.
+#[tactic(auto, unfolding(problem::specs::order::View::choice, problem::specs::order::View::view))]
 fn between_with_sums(
     entries: &[Entry],
     setup: Setup,
@@ -107,6 +108,7 @@ pub fn cheapest_from(entries: &[Entry], setup: Setup, held: Best, from: usize, b
 
 // The first good choice, where the incumbent has the fewest gates: one that costs less than the incumbent, or the incumbent. The filter at
 // hand serves up to the cost from which on a wider one is worth the time to fill it.
+#[tactic(auto, unfolding(problem::specs::order::View::choice))]
 pub fn cheapest(entries: &[Entry], setup: Setup, held: Best, bits: &mut [u64]) -> Best
     requires known { OnWires entries.now }
     requires ready { Ready setup.task setup.least × (setup.task.gate_limit ≤ 12) }

@@ -1,7 +1,7 @@
 // Iterative deepening: one walk after another, with rising counts of gates, and with rising costs. The contracts speak of every problem
 // that the arguments pose.
-ghost use Rattle.std.specs.Prelude.{◌≡◌, ◌≤◌, Some};
-ghost use Rattle.problem.specs.order.View.{view};
+ghost use Rattle.std.specs.Prelude.{◌≡◌, ◌≤◌};
+ghost use Rattle.std.proofs.Math.Option.{some};
 ghost use Rattle.problem.specs.Problems.{Problem};
 ghost use Rattle.problem.specs.Inner.{Past, Dearer, Shortest};
 ghost use Rattle.problem.specs.Entries.{entry_prices};
@@ -11,6 +11,7 @@ ghost use Rattle.solver.specs.deepening.Deepening.{Counted, Deepened, Priced, Ch
 
 use bounds::budget;
 use problem::Entry;
+use problem::incumbent::Incumbent;
 use problem::order::Best;
 use walk::node::{Setup, Task};
 
@@ -91,10 +92,10 @@ fn limited_to(task: Task, limit: usize) -> Task
 
 // Deepening on cost: a search at each cost, rising, until one finds something. At a cost that is no sum of prices each walk ends at its
 // root.
-pub fn cheaper(
+pub fn cheaper<H: Incumbent>(
     entries: &[Entry],
     setup: Setup,
-    held: Best,
+    held: H,
     costs: Costs,
     bits: &[u64],
     sums: &[u8],
@@ -102,9 +103,9 @@ pub fn cheaper(
     requires supplied { Supplied entries.now setup.task bits.now setup.reach }
     requires ready { Ready setup.task setup.least × (setup.task.gate_limit ≤ 12) }
     requires marked { Marked (entry_prices entries.now) setup.task.gate_limit sums.now }
-    requires costs_rise { (costs.from ≤ costs.to) × (costs.to ≤ held.cost) }
+    requires costs_rise { (costs.from ≤ costs.to) × (costs.to ≤ (H.stands_for held).cost) }
     ensures { (P : Problem) → Given P setup entries.now
-        → Limited P setup.task → Shortest P P.most_cost (view (Some held)) held.len → Dearer P costs.from
+        → Limited P setup.task → Shortest P P.most_cost (some (H.stands_for held)) (H.stands_for held).gates → Dearer P costs.from
         → Cheapened P costs.to result }
 {
     let task = setup.task;
@@ -116,7 +117,7 @@ pub fn cheaper(
             least,
             reach,
         };
-        if let Some(b) = at_cost(entries, at, held.len, bits, sums) {
+        if let Some(b) = at_cost(entries, at, held.len(), bits, sums) {
             return Some(b);
         }
     }

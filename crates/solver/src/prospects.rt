@@ -14,7 +14,7 @@ use bloom::hash::Reach;
 use bounds::{budget, elimination};
 use columns::table_columns;
 use problem::Entry;
-use problem::order::Best;
+use problem::incumbent::Incumbent;
 use reach_filter::filter;
 use walk::node::{Least, Task};
 
@@ -34,26 +34,32 @@ pub fn least_of(entries: &[Entry], task: Task) -> Least
 }
 
 // The most gates of a list that costs no more than the incumbent.
-fn most_cheaper(task: Task, least: Least, held: Best) -> usize
+fn most_cheaper<H: Incumbent>(task: Task, least: Least, held: H) -> usize
     requires { (least.needs ≤ 12) × (least.extra ≤ 255) }
-    ensures { result ≡ buys least.low least.extra least.needs held.cost task.gate_limit }
+    ensures { result ≡ buys least.low least.extra least.needs (H.stands_for held).cost task.gate_limit }
 {
     budget::buys(
         least.low,
         least.extra,
         least.needs,
-        held.cost as usize,
+        held.cost() as usize,
         task.gate_limit,
     )
 }
 
 // The lowest cost at which a list may have so many gates that a filter of a greater radius than this is worth the time to fill it; the
 // incumbent's cost, where there is none below. With many gates to choose from filling it takes longer than it saves.
-pub fn wider_from(count: usize, task: Task, least: Least, held: Best, radius: usize) -> usize
+pub fn wider_from<H: Incumbent>(
+    count: usize,
+    task: Task,
+    least: Least,
+    held: H,
+    radius: usize,
+) -> usize
     requires { (least.needs ≤ 12) × (least.extra ≤ 255) }
-    ensures { result ≤ held.cost }
+    ensures { result ≤ (H.stands_for held).cost }
 {
-    let top = held.cost as usize;
+    let top = held.cost() as usize;
     if 32 < count {
         return top;
     }
@@ -122,11 +128,11 @@ pub fn filled(entries: &[Entry], task: Task, radius: usize, bits: &mut [u64]) ->
 
 // The filter for the costs from `from` on and below the incumbent's: a wider one, filled anew, or, where there is no such cost, the one at
 // hand.
-pub fn widened(
+pub fn widened<H: Incumbent>(
     entries: &[Entry],
     task: Task,
     least: Least,
-    held: Best,
+    held: H,
     from: usize,
     reach: Reach,
     bits: &mut [u64],
@@ -135,7 +141,7 @@ pub fn widened(
     requires sieve { Sieve bits.old reach (entry_gates entries.now) task.controls task.wanted task.outputs task.free }
     ensures { Sieve bits.new result (entry_gates entries.now) task.controls task.wanted task.outputs task.free }
 {
-    if held.cost as usize <= from {
+    if held.cost() as usize <= from {
         return reach;
     }
     let radius = radius_for(entries.len(), most_cheaper(task, least, held));
@@ -199,9 +205,9 @@ pub fn early(limit: usize) -> usize
 }
 
 // Whether no list that could cost less than the incumbent has more than `most` gates: then no filter is worth its time.
-pub fn near(task: Task, least: Least, held: Best, most: usize) -> bool
+pub fn near<H: Incumbent>(task: Task, least: Least, held: H, most: usize) -> bool
     requires { (least.needs ≤ 12) × (least.extra ≤ 255) }
-    ensures { result ≡ leb (buys least.low least.extra least.needs held.cost task.gate_limit) most }
+    ensures { result ≡ leb (buys least.low least.extra least.needs (H.stands_for held).cost task.gate_limit) most }
 {
     most_cheaper(task, least, held) <= most
 }

@@ -5,7 +5,7 @@ ghost use Rattle.std.proofs.Math.Option.{Option};
 ghost use Rattle.circuit.specs.Measure.{cost};
 ghost use Rattle.table.specs.layouts.Layouts.{Width};
 ghost use Rattle.problem.specs.order.Choices.{Choice, attempt, improve};
-ghost use Rattle.problem.specs.order.View.{view};
+ghost use Rattle.problem.specs.order.View.{view, viewed};
 ghost use Rattle.problem.specs.Problems.{Problem, choice_of, here, within};
 ghost use Rattle.problem.specs.Inner.{looked_under, Enough};
 ghost use Rattle.outputs.specs.Owed.{lost};
@@ -15,6 +15,7 @@ use crate::node::{Least, Node, Task};
 use bounds::budget;
 use circuit::timing;
 use problem::best;
+use problem::incumbent::Incumbent;
 use problem::order::Best;
 use table::layouts;
 
@@ -79,20 +80,28 @@ pub fn consider_met(task: Task, s: Node, missing: usize, best: Option<Best>) -> 
 }
 
 // The most that a list may cost and still change the incumbent.
-fn cap(limit: usize, best: Option<Best>) -> usize
-    ensures { (P : Problem) (c : Choice) → result < c.cost → attempt (within P limit) (view best) c ≡ view best }
+fn cap<H: Incumbent>(limit: usize, best: Option<H>) -> usize
+    ensures { (P : Problem) (c : Choice) → result < c.cost
+        → attempt (within P limit) (viewed H.stands_for best) c ≡ viewed H.stands_for best }
 {
     match best {
-        Some(held) => limit.min(usize::from(held.cost)),
+        Some(held) => limit.min(usize::from(held.cost())),
         None => limit,
     }
 }
 
 // The most gates that a list may go on by and still change the incumbent: what the cost left buys, the heavy gates still needed among them.
-pub fn affordable(task: Task, least: Least, s: Node, remaining: usize, best: Option<Best>) -> usize
+pub fn affordable<H: Incumbent>(
+    task: Task,
+    least: Least,
+    s: Node,
+    remaining: usize,
+    best: Option<H>,
+) -> usize
     requires { (s.needs ≤ 12) × (least.extra ≤ 255) }
     ensures upper_bound { result ≤ remaining }
-    ensures enough { (P : Problem) → Bounded P least → At P s → Enough P task.cost_limit (list_of s) remaining result (view best) }
+    ensures enough { (P : Problem) → Bounded P least → At P s
+        → Enough P task.cost_limit (list_of s) remaining result (viewed H.stands_for best) }
 {
     let most = cap(task.cost_limit, best);
     let cost = s.cost as usize;
@@ -107,9 +116,9 @@ pub fn affordable(task: Task, least: Least, s: Node, remaining: usize, best: Opt
 
 // Whether no list that begins with one of this cost and length changes the incumbent: it costs more than the limit or the incumbent, or as
 // much as the incumbent with more gates.
-pub fn dear(limit: usize, paid: usize, len: usize, best: Option<Best>) -> bool
+pub fn dear<H: Incumbent>(limit: usize, paid: usize, len: usize, best: Option<H>) -> bool
     ensures { result ≡ true → (P : Problem) (l : List ℕ) (k : ℕ) → paid ≡ cost P.price l → len ≡ length l
-        → looked_under P limit l k (view best) ≡ view best }
+        → looked_under P limit l k (viewed H.stands_for best) ≡ viewed H.stands_for best }
 {
     if limit < paid {
         return true;
@@ -117,9 +126,9 @@ pub fn dear(limit: usize, paid: usize, len: usize, best: Option<Best>) -> bool
     let Some(held) = best else {
         return false;
     };
-    let cost = usize::from(held.cost);
+    let cost = usize::from(held.cost());
     if cost == paid {
-        return held.len < len;
+        return held.len() < len;
     }
     cost < paid
 }

@@ -4,7 +4,7 @@ ghost use Rattle.logic.specs.Bit.{bit_of};
 ghost use Rattle.gate.specs.Gates.{target_of, lawful};
 ghost use Rattle.table.specs.layouts.Layouts.{Width};
 ghost use Rattle.columns.specs.declared.Wanted.{Wanted};
-ghost use Rattle.problem.specs.order.View.{view};
+ghost use Rattle.problem.specs.order.View.{viewed};
 ghost use Rattle.problem.specs.Problems.{Problem};
 ghost use Rattle.problem.specs.Inner.{Enough};
 ghost use Rattle.outputs.specs.Owed.{worth, Controls};
@@ -22,7 +22,7 @@ use columns::Wanted;
 use outputs::plan::Plan;
 use outputs::{product_step, worth};
 use problem::Entry;
-use problem::order::Best;
+use problem::incumbent::Incumbent;
 use repairs::stuck;
 
 // Whether a gate's target is an open wire, and the gate keeps up with the outputs that are still owed. These tests come first: most gates
@@ -48,13 +48,13 @@ pub fn eligible(
 }
 
 // Whether a gate at a node can lead to a list that changes the incumbent, where at most `most` gates may still come, this one included.
-pub fn promising(
+pub fn promising<H: Incumbent>(
     table: &[u16],
     task: Task,
     s: Node,
     entry: Entry,
     most: usize,
-    best: Option<Best>,
+    best: Option<H>,
     bits: &[u64],
     reach: Reach,
 ) -> bool
@@ -63,9 +63,9 @@ pub fn promising(
     requires small { Small s }
     ensures passed { (P : Problem) (remaining : ℕ) → Asks P task → At P s → Lists P entry
         → table.now ≡ table_of task.controls task.wanted s.columns → 1 ≤ remaining
-        → Enough P task.cost_limit (list_of s) remaining most (view best)
+        → Enough P task.cost_limit (list_of s) remaining most (viewed H.stands_for best)
         → Sieve bits.now reach P.gates task.controls task.wanted task.outputs task.free → result ≡ false
-        → Passed P task.cost_limit s entry.gate remaining (view best) }
+        → Passed P task.cost_limit s entry.gate remaining (viewed H.stands_for best) }
     ensures gate_value { (P : Problem) → Asks P task → At P s → Lists P entry
         → table.now ≡ table_of task.controls task.wanted s.columns → result ≡ true
         → needless (list_of s) entry.gate ≡ false }

@@ -7,7 +7,7 @@ use mathlib.Core.List.{List, [], Memᴰ}
 use Prim.Native.Nat.{ℕ, ◌≤◌, ◌<◌}
 use native.Mathlib.Omega.{arith}
 use lib.ListN.{length}
-use Rattle.std.proofs.Math.Option.{none}
+use Rattle.std.proofs.Math.Option.{none, some}
 use Rattle.problem.specs.declared.Entry.{Entry}
 use Rattle.problem.specs.Entries.{entry_prices}
 use Rattle.problem.specs.declared.order.Best.{Best}
@@ -15,7 +15,7 @@ use Rattle.problem.specs.order.Choices.{Choice}
 use Rattle.problem.specs.order.View.{view}
 use Rattle.problem.specs.Problems.{Problem, choice_of, choices, good}
 use Rattle.problem.specs.Inner.{looked_under, Past, Dearer, Shortest}
-use Rattle.problem.proofs.Limits.{past_below, past_next, shortest, found_cost}
+use Rattle.problem.proofs.Limits.{past_below, past_next, shortest, held_cost}
 use Rattle.problem.proofs.Listed.{listed, unlisted, gates_are, cost_is, within_parts, within_joined}
 use Rattle.bounds.specs.budget.Afford.{buys}
 use Rattle.bounds.specs.sums.Sums.{Marked}
@@ -94,15 +94,15 @@ module _ (P : Problem) (task : Task) (entries : List Entry) (posed : Posed P tas
   }
 
   -- what a search at a cost below the incumbent's comes to
-  pub priced_below : (least : Least) → Bounded P least → Limited P task → (held : Best) → Shortest P P.most_cost (view (Some held)) held.len
-      → (c : ℕ) → c < held.cost → (sums : List ℕ) → Counted P c sums → (t : Task) → t ≡ limited_to task c → (r : Option Best)
-      → (Posed P t entries → Bounded P least → t.cost_limit ≤ P.most_cost → t.gate_limit ≡ P.most_gates → Past P t.cost_limit held.len
+  pub priced_below : (least : Least) → Bounded P least → Limited P task → (d : Choice) → Shortest P P.most_cost (some d) d.gates
+      → (c : ℕ) → c < d.cost → (sums : List ℕ) → Counted P c sums → (t : Task) → t ≡ limited_to task c → (r : Option Best)
+      → (Posed P t entries → Bounded P least → t.cost_limit ≤ P.most_cost → t.gate_limit ≡ P.most_gates → Past P t.cost_limit d.gates
       → Counted P t.cost_limit sums → Priced P t.cost_limit r)
       → Priced P c r
   unfolding limited_to
-  priced_below least bounded limited held first c k sums counted t e r searched =
-      let below = found_cost P P.most_cost held (omega arith) first in
+  priced_below least bounded limited d first c k sums counted t e r searched =
+      let below = held_cost P P.most_cost d (omega arith) first in
       subst
-      (λ (t : Task). (Posed P t entries → Bounded P least → t.cost_limit ≤ P.most_cost → t.gate_limit ≡ P.most_gates → Past P t.cost_limit held.len
+      (λ (t : Task). (Posed P t entries → Bounded P least → t.cost_limit ≤ P.most_cost → t.gate_limit ≡ P.most_gates → Past P t.cost_limit d.gates
       → Counted P t.cost_limit sums → Priced P t.cost_limit r)) e searched (posed_limited c) bounded (omega arith) limited.gates_most
-      (past_below P P.most_cost c held.len (omega arith) first.past) counted
+      (past_below P P.most_cost c d.gates (omega arith) first.past) counted

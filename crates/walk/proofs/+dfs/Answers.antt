@@ -13,6 +13,7 @@ use Rattle.gate.specs.Gates.{target_of}
 use Rattle.problem.specs.order.Choices.{Choice, improve}
 use Rattle.problem.specs.order.View.{view}
 use Rattle.problem.proofs.order.First.{improve_append}
+use Rattle.problem.proofs.order.Left.{viewed_is}
 use Rattle.problem.specs.Problems.{Problem, here, within}
 use Rattle.problem.specs.Inner.{Enough}
 use Rattle.problem.proofs.Skips.{enough_since}
@@ -40,7 +41,7 @@ pub returns-then-either : goal.returns-then-either
 returns-then-either t c =
     λ P given at exact.
     far P c.args.setup.task c.args.tree.node given.posed.asks at c.args.setup.task.cost_limit c.args.tree.remaining c.affordable-most.result
-    (view c.args.best) (c.affordable-most.ensures.enough P given.bounded at)
+    (view c.args.best) (rw (viewed_is c.args.best) at (c.affordable-most.ensures.enough P given.bounded at))
     (⊎_elim (λ h. inl (omega (arith, ltb-true c.affordable-most.result c.plan_of-plan.result.lost h, c.plan_of-plan.ensures.lost_value)))
     (λ h. inr (ltb-true _ _ h)) (either_cases _ _ (sym c.either.ensures ∙ c.if-either.true)))
 
@@ -48,7 +49,8 @@ pub returns-then-most-eq0 : goal.returns-then-most-eq0
 returns-then-most-eq0 t c =
     λ P given at exact.
     walk_stop needless P c.args.setup.task.cost_limit (list_of c.args.tree.node) c.args.tree.remaining c.affordable-most.result
-    (view c.args.best) (view c.consider_met-b.result) (c.affordable-most.ensures.enough P given.bounded at) c.if-most-eq0.true
+    (view c.args.best) (view c.consider_met-b.result) (rw (viewed_is c.args.best) at (c.affordable-most.ensures.enough P given.bounded at))
+    c.if-most-eq0.true
     (c.consider_met-b.ensures P given.posed.asks at)
 
 pub loop-entry-init : goal.loop-entry-init
@@ -101,7 +103,8 @@ module _ (t : ℕ) (c : Joined-eligible t) where
     -- the incumbent before the turn comes from the one at the start
     enough : Enough P limit (list_of node) remaining most (view c.loop-entry.b)
     enough =
-        enough_since P limit (list_of node) remaining most (view c.args.best) (c.affordable-most.ensures.enough P given.bounded at)
+        enough_since P limit (list_of node) remaining most (view c.args.best)
+        (rw (viewed_is c.args.best) at (c.affordable-most.ensures.enough P given.bounded at))
         (view c.loop-entry.b) (here P (list_of node) ++ branches needless (here P) P.gates (list_of node) (remaining - 1) c.loop-entry.entry-index)
         (c.loop-entry.invariant.1 P given at exact
         ∙ ap (λ (x : Option Choice). improve (within P limit) x (branches needless (here P) P.gates (list_of node) (remaining - 1) c.loop-entry.entry-index))
@@ -137,8 +140,9 @@ module _ (t : ℕ) (c : Joined-eligible t) where
         | then-eligible+else-promising w ↦ (
             λ P given at exact.
             ap view w.b-is
-            ∙ w.promising.ensures.passed P remaining given.posed.asks at (tried_is P given at exact) c.table_of-table.ensures some_left
-            (enough P given at exact) (sieve_is P given at exact) w.if-promising.false
+            ∙ rw (viewed_is c.loop-entry.b) at
+            (w.promising.ensures.passed P remaining given.posed.asks at (tried_is P given at exact) c.table_of-table.ensures some_left
+            (rw (viewed_is c.loop-entry.b) (enough P given at exact)) (sieve_is P given at exact) w.if-promising.false)
             )
         | else-eligible w ↦ (
             λ P given at exact.

@@ -9,6 +9,7 @@ use Rattle.problem.specs.order.Choices.{Choice, improve}
 use Rattle.problem.specs.order.View.{view}
 use Rattle.problem.specs.Problems.{Problem, here, within}
 use Rattle.problem.specs.pruned.Pruned.{branches, tried_under, tried_by}
+use Rattle.problem.proofs.order.Left.{viewed_is}
 use Rattle.problem.proofs.pruned.Listing.{pruned_zero}
 use Rattle.problem.proofs.pruned.Walk.{by_entering, walk_turn, walk_end}
 use Rattle.walk.specs.declared.node.Task.{Task}
@@ -87,7 +88,10 @@ module _ (t : ℕ) (c : Joined-hopeful t) where
             (c.hopeful.ensures.gate_value P posed.asks at is c.table_of-table.ensures w.if-hopeful.true)
             )
         | else-hopeful w ↦ (
-            λ P posed at. ap view w.b-is ∙ c.hopeful.ensures.best_value P posed.asks at (tried_is P posed) c.table_of-table.ensures w.if-hopeful.false
+            λ P posed at.
+            ap view w.b-is
+            ∙ rw (viewed_is c.loop-entry.b) at
+            (c.hopeful.ensures.best_value P posed.asks at (tried_is P posed) c.table_of-table.ensures w.if-hopeful.false)
             )
       ]
 

@@ -1,11 +1,12 @@
+use mathlib.Core.Option.{some}
 use mathlib.Core.Logic.{◌⊎◌, inl, inr, ⊎_elim}
 use Prim.Native.Nat.{ℕ, ◌<◌}
 use native.Mathlib.Decide.{dec_lt}
 use native.Mathlib.Omega.{arith}
-use Rattle.std.specs.Prelude.{min, Some}
-use Rattle.problem.specs.order.View.{view}
+use Rattle.std.specs.Prelude.{min}
+use Rattle.problem.specs.order.View.{viewed}
 use Rattle.problem.proofs.order.First.{attempt_not}
-use Rattle.problem.proofs.order.Held.{dearer_left}
+use Rattle.problem.proofs.order.Left.{dearer_left}
 use Rattle.problem.specs.Problems.{within}
 use Rattle.problem.proofs.Listed.{dear}
 use Rattle.walk.proofs.offer.cap.Goals as goal
@@ -20,12 +21,15 @@ over x y a h = by_second (dec_lt y a)
 
 -- it costs more than the incumbent, or more than the limit
 pub returns-in-Some : goal.returns-in-Some
-returns-in-Some c = λ P a h.
-    let above : min c.args.limit c.in-Some.held.cost < a.cost = omega arith in
+unfolding viewed
+returns-in-Some g c = λ P a h.
+    let d = g.H.Incumbent.stands_for c.in-Some.held in
+    let e = c.cost.ensures in
+    let above : min c.args.limit d.cost < a.cost = omega arith in
     rw c.in-Some.is (⊎_elim
-    (λ (k : c.in-Some.held.cost < a.cost). dearer_left (within P c.args.limit) a c.in-Some.held k)
-    (λ (k : c.args.limit < a.cost). attempt_not (within P c.args.limit) (view (Some c.in-Some.held)) a (dear P c.args.limit a k))
-    (over c.args.limit c.in-Some.held.cost a.cost above))
+    (λ (k : d.cost < a.cost). dearer_left (within P c.args.limit) a d k)
+    (λ (k : c.args.limit < a.cost). attempt_not (within P c.args.limit) (some d) a (dear P c.args.limit a k))
+    (over c.args.limit d.cost a.cost above))
 
 pub returns-in-None : goal.returns-in-None
-returns-in-None c = λ P a h. attempt_not (within P c.args.limit) (view c.args.best) a (dear P c.args.limit a h)
+returns-in-None g c = λ P a h. attempt_not (within P c.args.limit) (viewed g.H.Incumbent.stands_for c.args.best) a (dear P c.args.limit a h)

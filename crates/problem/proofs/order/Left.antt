@@ -1,13 +1,14 @@
--- Which choices can no longer change the incumbent.
-use mathlib.Core.Path.{◌≡◌, sym, ◌∙◌}
+-- Which choices can no longer change the incumbent; and the incumbent of a search, as a function for any sees it.
+use mathlib.Core.Path.{◌≡◌, refl, sym, ◌∙◌}
 use mathlib.Core.Bool.{Bool, true, false}
 use mathlib.Core.Logic.{⊎_elim}
-use Rattle.std.specs.Prelude.{Some}
+use mathlib.Core.Option.{some}
 use Prim.Native.Nat.{◌≤◌, ◌<◌}
 use native.Mathlib.Nat.{eq-or-lt_of_le}
+use Rattle.std.specs.Prelude.{Option, Some, None}
 use Rattle.problem.specs.declared.order.Best.{Best}
 use Rattle.problem.specs.order.Choices.{Choice, before, attempt}
-use Rattle.problem.specs.order.View.{choice, view}
+use Rattle.problem.specs.order.View.{choice, view, viewed}
 use Rattle.problem.proofs.order.Order.{lex_gt, lex_eq, by_cost, by_gates}
 use Rattle.problem.proofs.order.First.{attempt_after}
 
@@ -30,13 +31,17 @@ module _ (a b : Choice) where
   pub by_fewer : a.cost ≤ b.cost → a.gates < b.gates → before a b ≡ true
   by_fewer h k = ⊎_elim (λ (e : a.cost ≡ b.cost). by_gates a b e k) (λ (l : a.cost < b.cost). by_cost a b l) (eq-or-lt_of_le h)
 
-module _ (good : Choice → Bool) (c : Choice) (b : Best) where
+module _ (good : Choice → Bool) (c d : Choice) where
   -- what costs more than what is held leaves it
-  pub dearer_left : b.cost < c.cost → attempt good (view (Some b)) c ≡ view (Some b)
-  unfolding view choice
-  dearer_left h = (attempt_after good c (choice b) (after_cost c (choice b) h))
+  pub dearer_left : d.cost < c.cost → attempt good (some d) c ≡ some d
+  dearer_left h = attempt_after good c d (after_cost c d h)
 
   -- and so does what costs no less and has more gates
-  pub longer_left : b.cost ≤ c.cost → b.len < c.gates → attempt good (view (Some b)) c ≡ view (Some b)
-  unfolding view choice
-  longer_left h k = (attempt_after good c (choice b) (after_gates c (choice b) h k))
+  pub longer_left : d.cost ≤ c.cost → d.gates < c.gates → attempt good (some d) c ≡ some d
+  longer_left h k = attempt_after good c d (after_gates c d h k)
+
+-- what a search holds is the same choice to a function that takes any incumbent
+pub viewed_is : (o : Option Best) → viewed choice o ≡ view o
+unfolding viewed view
+viewed_is None = refl
+viewed_is (Some b) = refl

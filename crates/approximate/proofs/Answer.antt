@@ -52,11 +52,11 @@ module _ (job : List ℕ) (room : ℕ) where
       unfolding view
       close_is = past kept ∙ ap (close_of job) (sym first)
 
-      pub circuit_is : told_of job m (choice b) ≡ circuit_in (closest_of job room)
-      unfolding choice
+      pub circuit_is : told_of job m (view (Some b)) ≡ circuit_in (closest_of job room)
+      unfolding view choice
       circuit_is = rw (close_is, measured) refl
 
       -- told with as many misses, what the search says is the answer
-      pub told_is : with_misses k (reported (told_of job m (choice b))) ≡ told (closest_of job room)
-      unfolding choice
+      pub told_is : with_misses k (reported (told_of job m (view (Some b)))) ≡ told (closest_of job room)
+      unfolding view choice
       told_is = rw (close_is, measured, missed) refl

@@ -73,8 +73,9 @@ pub fn closest(job: &[u8], answer: &mut [u8]) -> Result<Nearest, Refusal>
     let near = approach(job);
     let best = outcomes::found(near.best)?;
     let measures = outcomes::measures_of(job, best.gates());
+    let report = outcomes::tell(job, Some(best), measures, answer)?;
     Ok(Nearest {
-        report: outcomes::tell(job, best, measures, answer),
+        report,
         misses: near.misses,
     })
 }

@@ -46,7 +46,7 @@ module _ (G : GateSet) (job : List ℕ) (code : ℕ) where
   -- what is told of the first good choice, with its measures, is the answer
   pub told_is : code ≡ 0 → (b : Best) → view (Some b) ≡ first_good (problem_over G job)
       → (m : Measures) → m ≡ measures_of G.price G.duration (take b.len b.path)
-      → told_of job m (choice b) ≡ search_over G job code
+      → told_of job m (view (Some b)) ≡ search_over G job code
   unfolding search_over view choice
   told_is kept b first m e = rw (kept, ← first, e) refl
 

@@ -2,7 +2,8 @@
 use Rattle.std.specs.Prelude.{◌≡◌, true, ℕ}
 use mathlib.Core.List.{List, Memᴰ}
 use Rattle.std.specs.List.{All}
-use Rattle.logic.specs.Answers.{Answer, answered}
+use Rattle.std.proofs.Math.Option.{Option, none, some}
+use Rattle.logic.specs.Answers.{Answer, refused, answered}
 use Rattle.gate.specs.Gates.{lawful}
 use Rattle.record.specs.job_fields.Jobs.{most_controls, wires}
 use Rattle.circuit.specs.declared.Weights.{Weights}
@@ -27,6 +28,7 @@ pub record Tabled (G : GateSet) (entries : List Entry) : Type 0 where
   pub priced : All (λ (e : Entry). e.price ≡ G.price e.gate) entries
   pub timed : All (λ (e : Entry). e.duration ≡ G.duration e.gate) entries
 
--- the outcome for a first good choice whose measures are m: its record with m
-abbrev pub told_of : List ℕ → Measures → Choice → Answer Found
-told_of job m c = answered (record { bytes = record_of job c.layout c.bytes; measures = m })
+-- the outcome for a first good choice whose measures are m: its record with m, or 14 where there is none
+abbrev pub told_of : List ℕ → Measures → Option Choice → Answer Found
+told_of job m none = refused 14
+told_of job m (some c) = answered (record { bytes = record_of job c.layout c.bytes; measures = m })

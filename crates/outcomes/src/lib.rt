@@ -7,13 +7,13 @@
 pub mod preflight; // jobs that parity rules out before any search, and the price and duration of each gate
 
 ghost use Rattle.std.specs.Prelude.{◌≡◌, ◌≤◌, length, take, Some, None, IfOk, IfErr};
-ghost use Rattle.logic.specs.Answers.{answered};
+ghost use Rattle.record.specs.Answers.{reply};
 ghost use Rattle.record.specs.declared.refusal.Refusal.TheVariants as broken;
 ghost use Rattle.record.specs.JobRules.{job_code};
 ghost use Rattle.record.specs.job_fields.Jobs.{price_of, duration_of};
 ghost use Rattle.circuit.specs.measures.Measures.{measures_of};
 ghost use Rattle.problem.specs.Entries.{entry_gates};
-ghost use Rattle.problem.specs.order.View.{choice};
+ghost use Rattle.problem.specs.order.View.{view};
 ghost use Rattle.outcomes.specs.Outcomes.{own_set, reported, written};
 ghost use Rattle.outcomes.specs.Inner.{Lawfuls, Tabled, told_of};
 
@@ -37,7 +37,7 @@ pub struct Reported {
 pub struct Stock {
     pub count: usize,
     pub all: [Entry; 75],
-    ghost fits: { count ≤ 75 },
+    pub ghost fits: { count ≤ 75 },
 }
 
 impl Stock {
@@ -83,17 +83,25 @@ pub fn found(best: Option<Best>) -> Result<Best, Refusal>
     best.ok_or(Refusal::NoCircuit)
 }
 
-// Writes the record of a circuit that was found for a job to the front of `answer`, and returns its length with the measures given.
-pub fn tell(job: &[u8], best: Best, measures: Measures, answer: &mut [u8]) -> Reported
+// Writes the record of a job's first good choice to the front of `answer`, and returns its length with the measures given; 14 where there
+// is no good choice.
+pub fn tell(
+    job: &[u8],
+    best: Option<Best>,
+    measures: Measures,
+    answer: &mut [u8],
+) -> Result<Reported, Refusal>
     requires { 15 ≤ length answer.old }
-    ensures result_value { answered result ≡ reported (told_of job.now measures (choice best)) }
-    ensures result_bound { result.size ≤ 15 }
-    ensures answer_after { answer.new ≡ written (told_of job.now measures (choice best)) answer.old }
+    ensures result_value { reply result ≡ reported (told_of job.now measures (view best)) }
+    ensures result_bound { IfOk result (λ r. r.size ≤ 15) }
+    ensures answer_after { answer.new ≡ written (told_of job.now measures (view best)) answer.old }
+    ensures none_alone { IfErr result (λ _. best ≡ None) }
 {
+    let best = found(best)?;
     let n = job_fields::data_wires(job);
     let m = job_fields::ancillas(job);
     let mark = job_fields::longer(job);
     let path = best.path;
     let size = writing::write_record(n, m, mark, best.layout, path, best.len, answer);
-    Reported { size, measures }
+    Ok(Reported { size, measures })
 }

@@ -69,5 +69,5 @@ pub fn search(job: &[u8], answer: &mut [u8]) -> Result<Reported, Refusal>
     call_codes::check_search(job, answer.len())?;
     let best = outcomes::found(first_good(job))?;
     let measures = outcomes::measures_of(job, best.gates());
-    Ok(outcomes::tell(job, best, measures, answer))
+    outcomes::tell(job, Some(best), measures, answer)
 }

@@ -3,7 +3,8 @@ use mathlib.Core.Path.{◌≡◌, sym, ap, ◌∙◌}
 use borrow.Author.Rules.{rules}
 use lib.ListN.{length}
 use Rattle.logic.specs.Answers.{Answer, refused}
-use Rattle.problem.specs.order.View.{view, choice}
+use Rattle.std.proofs.Common.{Some}
+use Rattle.problem.specs.order.View.{view}
 use Rattle.circuit.specs.measures.Measures.{measures_of}
 use Rattle.record.specs.job_fields.Jobs.{price_of, duration_of}
 use Rattle.record.specs.Answers.{number}
@@ -30,13 +31,13 @@ nothing c =
     ∙ sym (ap (λ e. refused (number e)) c.in_err-best.ensures.err.1)
 
 module _ (c : After-tell) where
-  circuit : told_of c.args.job.now c.measures_of-measures.result (choice c.in_ok-best.best) ≡ circuit_in (closest_of c.args.job.now (length c.args.answer.now))
+  circuit : told_of c.args.job.now c.measures_of-measures.result (view (Some c.in_ok-best.best)) ≡ circuit_in (closest_of c.args.job.now (length c.args.answer.now))
   circuit =
       circuit_is c.args.job.now _ (sym c.in_ok-check_search.ensures) c.in_ok-best.best c.approach-near.result.misses
       (sym (ap view c.in_ok-best.ensures.ok) ∙ c.approach-near.ensures.1) c.approach-near.ensures.0
       c.measures_of-measures.result (c.measures_of-measures.ensures ∙ ap (measures_of (price_of c.args.job.now) (duration_of c.args.job.now)) c.gates.ensures)
 
-  close : with_misses c.approach-near.result.misses (reported (told_of c.args.job.now c.measures_of-measures.result (choice c.in_ok-best.best)))
+  close : with_misses c.approach-near.result.misses (reported (told_of c.args.job.now c.measures_of-measures.result (view (Some c.in_ok-best.best))))
       ≡ told (closest_of c.args.job.now (length c.args.answer.now))
   close =
       told_is c.args.job.now _ (sym c.in_ok-check_search.ensures) c.in_ok-best.best c.approach-near.result.misses
@@ -65,7 +66,7 @@ returns-in_err-best-clause-answer_after c =
 
 pub returns-clause-result_value : goal.returns-clause-result_value
 returns-clause-result_value c =
-    ap (with_misses c.approach-near.result.misses) c.tell.ensures.result_value ∙ close (goal.at.returns-clause-result_value c).After-tell
+    ap (with_misses c.approach-near.result.misses) c.in_ok-report.ensures.result_value ∙ close (goal.at.returns-clause-result_value c).After-tell
 
 pub returns-clause-answer_after : goal.returns-clause-answer_after
 returns-clause-answer_after c =

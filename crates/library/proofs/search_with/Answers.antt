@@ -3,7 +3,8 @@ use mathlib.Core.Path.{◌≡◌, sym, ap, ◌∙◌}
 use borrow.Author.Rules.{rules}
 use lib.ListN.{length}
 use Rattle.logic.specs.Answers.{Answer, refused}
-use Rattle.problem.specs.order.View.{view, choice}
+use Rattle.std.proofs.Common.{Some}
+use Rattle.problem.specs.order.View.{view}
 use Rattle.circuit.specs.measures.Measures.{measures_of}
 use Rattle.library.specs.entries.Library.{price_in, duration_in}
 use Rattle.record.specs.Answers.{number}
@@ -30,7 +31,7 @@ nothing c =
     none_is (set_in c.args.library.now) c.args.job.now _ (sym c.in_ok-check_search_with.ensures) (sym (ap view c.in_err-best.ensures.err.0) ∙ c.first_good.ensures)
     ∙ sym (ap (λ e. refused (number e)) c.in_err-best.ensures.err.1)
 
-found : (c : After-tell) → told_of c.args.job.now c.measures_of-measures.result (choice c.in_ok-best.best) ≡ search_with c.args.job.now c.args.library.now (length c.args.answer.now)
+found : (c : After-tell) → told_of c.args.job.now c.measures_of-measures.result (view (Some c.in_ok-best.best)) ≡ search_with c.args.job.now c.args.library.now (length c.args.answer.now)
 unfolding search_with
 found c =
     told_is (set_in c.args.library.now) c.args.job.now _ (sym c.in_ok-check_search_with.ensures) c.in_ok-best.best (sym (ap view c.in_ok-best.ensures.ok) ∙ c.first_good.ensures)

@@ -6,13 +6,13 @@ ghost use Rattle.record.specs.Answers.{reply};
 ghost use Rattle.record.specs.job_fields.Jobs.{most_controls, data_wires, wires, free_layout};
 ghost use Rattle.record.specs.JobRules.{job_code};
 ghost use Rattle.problem.specs.order.Choices.{attempt};
-ghost use Rattle.problem.specs.order.View.{view};
+ghost use Rattle.problem.specs.order.View.{view, viewed, held_choice};
 ghost use Rattle.problem.specs.Problems.{choice_of, good};
 ghost use Rattle.outcomes.specs.Outcomes.{problem_of, reported, written};
 ghost use Rattle.scheduler.specs.candidates.Inner.{current_at, after_at, remaining};
 ghost use Rattle.scheduler.specs.candidates.Left.{chosen, digits_at};
 ghost use Rattle.scheduler.specs.slot.Slots.{empty, is_empty, is_working, is_finished, begun, tried, result_of};
-ghost use Rattle.scheduler.specs.slot.View.{sound_of, stage_of, view_slot};
+ghost use Rattle.scheduler.specs.slot.View.{stage_said, held_len, sound_of, stage_of, view_slot};
 ghost use Rattle.scheduler.specs.slot.Inner.{does_for};
 
 use crate::candidates;
@@ -21,7 +21,7 @@ use circuit::measures::Measures;
 use gate::gate_tables;
 use outcomes::Reported;
 use problem::best;
-use problem::order::Best;
+use problem::order::{Best, Held};
 use record::job_fields;
 use record::refusal::Refusal;
 use table::{agreement, cleaning, layouts};
@@ -34,15 +34,72 @@ pub enum Stage {
     Finished,
 }
 
-// The state of a slot. `job` begins with the job's `size` bytes, `at` is the place of the candidate to try next, and `best` is the
-// incumbent, the best circuit so far.
+// The stage that a status says: 1 is working, 2 finished, and any other number empty.
+fn stage_said(status: u8) -> Stage
+    ensures { result ≡ stage_said status }
+{
+    match status {
+        1 => Stage::Working,
+        2 => Stage::Finished,
+        _ => Stage::Empty,
+    }
+}
+
+// How many gates the circuit that is kept has, if there is one.
+#[tactic(auto, unfolding(crate::specs::slot::View::held_len))]
+fn held_len(held: Option<Held>) -> usize
+    ensures { result ≡ held_len held }
+{
+    match held {
+        Some(held) => held.len,
+        None => 0,
+    }
+}
+
+// What a slot keeps, as the incumbent of a search.
+#[tactic(auto, unfolding(crate::specs::slot::View::held_len, problem::specs::order::View::view, problem::specs::order::View::viewed, problem::specs::order::View::choice, problem::specs::order::View::held_choice))]
+fn incumbent(held: Option<Held>) -> Option<Best>
+    requires { held_len held ≤ 12 }
+    ensures { view result ≡ viewed held_choice held }
+{
+    let held = held?;
+    let path = held.path;
+    Some(Best {
+        cost: held.cost,
+        depth: held.depth,
+        layout: held.layout,
+        len: held.len,
+        path,
+    })
+}
+
+// An incumbent, as a slot keeps it.
+#[tactic(auto, unfolding(crate::specs::slot::View::held_len, problem::specs::order::View::view, problem::specs::order::View::viewed, problem::specs::order::View::choice, problem::specs::order::View::held_choice))]
+fn kept(best: Option<Best>) -> Option<Held>
+    ensures same { viewed held_choice result ≡ view best }
+    ensures short { held_len result ≤ 12 }
+{
+    let best = best?;
+    let path = best.path;
+    Some(Held {
+        cost: best.cost,
+        depth: best.depth,
+        layout: best.layout,
+        len: best.len,
+        path,
+    })
+}
+
+// The state of a slot. `status` is 1 for a working slot, 2 for a finished one, anything else for an empty one: a number, since a caller can
+// make any. `job` begins with the job's `size` bytes, `at` is the place of the candidate to try next, and `best` is the incumbent, the best
+// circuit so far, of any length for the same reason.
 #[derive(Clone, Copy)]
 pub struct SlotState {
-    pub stage: Stage,
+    pub status: u8,
     pub size: usize,
     pub job: [u8; 30],
     pub at: Place,
-    pub best: Option<Best>,
+    pub best: Option<Held>,
 }
 
 impl SlotState {
@@ -52,7 +109,7 @@ impl SlotState {
     {
         let at = candidates::first();
         SlotState {
-            stage: Stage::Empty,
+            status: 0,
             size: 0,
             job: [0; 30],
             at,
@@ -70,7 +127,7 @@ impl SlotState {
         bytes[..size].copy_from_slice(job);
         let at = candidates::first();
         SlotState {
-            stage: Stage::Working,
+            status: 1,
             size,
             job: bytes,
             at,
@@ -78,13 +135,16 @@ impl SlotState {
         }
     }
 
-    // Whether the fields fit one another: the job is well-formed, and the list has at most twelve gates. A caller can make any state, so no
-    // ghost field says this.
+    // Whether the fields fit one another: the job is well-formed, and both lists have at most twelve gates. A caller can make any state, so
+    // no ghost field says this.
     #[tactic(auto, unfolding(crate::specs::slot::View::sound_of))]
     fn is_sound(&self) -> bool
         ensures { result ≡ sound_of self.now }
     {
-        self.size <= 30 && record::check_job(&self.job[..self.size]).is_ok() && self.at.len <= 12
+        self.size <= 30
+            && record::check_job(&self.job[..self.size]).is_ok()
+            && self.at.len <= 12
+            && held_len(self.best) <= 12
     }
 
     // The stage that the slot stands for: it is empty where the fields do not fit one another.
@@ -93,7 +153,7 @@ impl SlotState {
         ensures { result ≡ stage_of self.now }
     {
         if self.is_sound() {
-            self.stage
+            stage_said(self.status)
         } else {
             Stage::Empty
         }
@@ -125,11 +185,11 @@ impl SlotState {
             return;
         }
         let job = &self.job[..self.size];
-        let held = attempt(job, self.at, self.best);
+        let held = kept(attempt(job, self.at, incumbent(self.best)));
         let next = place_after(job, self.at);
         self.best = held;
         let Some(place) = next else {
-            self.stage = Stage::Finished;
+            self.status = 2;
             return;
         };
         self.at = place;
@@ -144,9 +204,9 @@ impl SlotState {
         ensures answer_after { answer.new ≡ written (result_of (view_slot self.now)) answer.old }
     {
         let job = &self.job[..self.size];
-        let best = outcomes::found(self.best)?;
+        let best = outcomes::found(incumbent(self.best))?;
         let measures = outcomes::measures_of(job, best.gates());
-        Ok(outcomes::tell(job, best, measures, answer))
+        outcomes::tell(job, Some(best), measures, answer)
     }
 }
 

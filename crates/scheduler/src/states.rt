@@ -1,9 +1,10 @@
 // All eight slots: the one to be served next, and the rules of `post` and `collect`.
-ghost use Rattle.std.specs.Prelude.{◌≡◌, true, ◌<◌, ◌≤◌, IfSome, IfOk};
+ghost use Rattle.std.specs.Prelude.{◌≡◌, true, ◌<◌, ◌≤◌, ◌%◌, IfSome, IfOk};
 ghost use Rattle.record.specs.Answers.{code_of};
 ghost use Rattle.record.specs.JobRules.{job_code};
 ghost use Rattle.scheduler.specs.slot.Slots.{is_finished};
-ghost use Rattle.scheduler.specs.states.States.{start_state, slot_at, post_code, served_by, collect_code};
+ghost use Rattle.scheduler.specs.slot.View.{view_slot};
+ghost use Rattle.scheduler.specs.states.States.{start_state, slot_at, with_slot, post_code, served_by, collect_code};
 ghost use Rattle.scheduler.specs.states.Calls.{view_state, service_answer};
 
 use crate::slot::SlotState;
@@ -29,6 +30,28 @@ pub fn start() -> Slots
 }
 
 impl Slots {
+    // Slot `i`, or an empty one where there is no slot `i`.
+    pub fn slot_at(&self, i: usize) -> SlotState
+        ensures { view_slot result ≡ slot_at (view_state self.now) i }
+    {
+        if i < 8 {
+            self.states[i]
+        } else {
+            SlotState::vacant()
+        }
+    }
+
+    // The slots with `state` as slot `i`, and `last` as the slot served last. Where there is no slot `i`, only that changes.
+    pub fn with_slot(self, i: usize, state: SlotState, last: usize) -> Slots
+        ensures { view_state result ≡ with_slot (view_state self) i (view_slot state) (last % 8) }
+    {
+        let mut states = self.states;
+        if i < 8 {
+            states[i] = state;
+        }
+        Slots { states, last }
+    }
+
     // The rules of posting: there is such a slot, it is empty, the job is well-formed.
     #[tactic(auto, using(crate::proofs::states::Views::slot_in), unfolding(crate::specs::states::States::post_code))]
     pub fn check_post(&self, which: usize, job: &[u8]) -> Result<(), Refusal>

@@ -43,6 +43,6 @@ mine job path len p m e k b e₁ e₂ e₃ e₄ e₅ = rw (e₁, e₂, e₃, e�
 
 -- what is told of a circuit that was held, with its measures
 pub told_held : (job : List ℕ) (b : Best) (m : Measures) → m ≡ measures_of (price_of job) (duration_of job) (take b.len b.path)
-    → told_of job m (choice b) ≡ outcome_of (own_set job) job (view (Some b))
+    → told_of job m (view (Some b)) ≡ outcome_of (own_set job) job (view (Some b))
 unfolding view choice
 told_held job b m e = rw e

@@ -1,5 +1,6 @@
 -- From heading and body to the answer of the call.
-use Rattle.std.proofs.Common.{◌≡◌, ◌∙◌, false, List, ◌++◌, ℕ, ◌-◌, ◌≤◌, ◌<◌, length, take, drop, arith}
+use Rattle.std.proofs.Common.{◌≡◌, ◌∙◌, false, List, ◌++◌, ℕ, ◌-◌, ◌≤◌, ◌<◌, length, take, drop, Some, None, Result, Ok, Err, arith}
+use Rattle.std.specs.Result.{result_ok}
 use Rattle.std.proofs.Math.Option as maths
 use borrow.Author.Tests.{le-leb, lt-leb}
 use Rattle.logic.specs.Answers.{Answer, refused, answered}
@@ -13,7 +14,9 @@ use Rattle.revlib.proofs.Sound.{ancilla_few}
 use Rattle.revlib_reader.specs.declared.reader.Body.{Body}
 use Rattle.revlib_reader.specs.declared.heading.Heading.{Heading}
 use Rattle.revlib_reader.specs.heading.Heading.{HeadingIs}
-use Rattle.revlib_reader.specs.reader.Steps.{letters_of, LinesAre}
+use Rattle.revlib_reader.specs.declared.reader.Departure.{Departure}
+use Rattle.revlib_reader.specs.declared.reader.Text.{Text}
+use Rattle.revlib_reader.specs.reader.Steps.{letters_of, LinesAre, TextIs}
 
 module _ (text : List ℕ) where
   pub no_heading : heading_here text ≡ false → parse text ≡ maths.none
@@ -49,6 +52,18 @@ module _ (text : List ℕ) where
           let n = lines.counted in
           let k : data_count (names_at text) (constants_in text) ≡ h.wires - h.ancillas = rw (is.spare, ← w, is.names) in
           rw (parsed, lines.are, le-leb (length lines.read) 12 (omega arith), lines.kept m, ← is.names, ← is.spare, w)
+
+-- a text that departs from the form describes no circuit, wherever it departs
+pub departed : (text : List ℕ) (r : Result Text Departure) → TextIs text r → length text ≤ 4096 → result_ok r ≡ None → parse text ≡ maths.none
+departed text (Ok t) is m e = cc
+departed text (Err (Departure.Heading h)) is m e = is.1
+departed text (Err (Departure.Body h)) is m e = (is.1 m).1
+
+-- a text that is in order, as it was read
+pub in_order : (text : List ℕ) (r : Result Text Departure) (t : Text) → TextIs text r → result_ok r ≡ Some t → TextIs text (Ok t)
+in_order text (Ok u) t is e = let same : u ≡ t = cc in rw (← same) is
+in_order text (Err (Departure.Heading h)) t is e = cc
+in_order text (Err (Departure.Body h)) t is e = cc
 
 -- a record that is answered is written, and its length returned
 module _ {o : Answer (List ℕ)} {bytes : List ℕ} (found : o ≡ answered bytes) (k : ℕ) (sized : k ≡ length bytes) where

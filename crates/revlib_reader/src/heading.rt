@@ -10,7 +10,7 @@ ghost use Rattle.revlib_reader.specs.heading.Inner.{opening, closing, dashes, da
 
 use crate::{gate_words, keywords};
 
-// A heading that is in order: the declared letters, the number of wires and ancillas, and where the gate lines begin.
+// What stands in the places of a heading: the declared letters, the number of wires and ancillas, and where the gate lines begin.
 #[derive(Clone, Copy)]
 pub struct Heading {
     pub names: [u8; 5],
@@ -22,11 +22,18 @@ pub struct Heading {
 }
 
 impl Heading {
-    ghost use Rattle.revlib_reader.specs.heading.Heading.{HeadingRead};
+    ghost use Rattle.revlib_reader.specs.heading.Heading.{HeadingRead, HeadingTold};
 
     // Reads the heading of a text, if it is in order.
     pub fn read(s: &[u8]) -> Option<Heading>
         ensures { HeadingRead s.now result }
+    {
+        Heading::read_heading(s).ok()
+    }
+
+    // Reads the heading of a text. Where it is not in order, what stands in its places was read all the same, and comes back as `Err`.
+    pub fn read_heading(s: &[u8]) -> Result<Heading, Heading>
+        ensures { HeadingTold s.now result }
     {
         let wires = name_count(s);
         let constants = Constants::read(s, wires);
@@ -36,7 +43,11 @@ impl Heading {
             ancillas: constants.ancillas(),
             end: constants.end(wires),
         };
-        heading_here(s, head.letters(), constants).then_some(head)
+        if heading_here(s, head.letters(), constants) {
+            Ok(head)
+        } else {
+            Err(head)
+        }
     }
 
     // The declared letters.

@@ -36,7 +36,7 @@ fn parse(text: &[u8]) -> Result<Circuit, Refusal>
     requires { length text.now ≤ 4096 }
     ensures { CircuitIs (outcome_of (parse text.now)) result }
 {
-    let Text { head, body } = reader::scan(text).ok_or(Refusal::TextForm)?;
+    let Text { head, body } = reader::scan(text).ok().ok_or(Refusal::TextForm)?;
     refusal::kept(body.count <= 12, Refusal::TextGates)?;
     let gates = body.gates;
     Ok(Circuit {

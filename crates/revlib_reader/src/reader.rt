@@ -1,8 +1,8 @@
 // The reader that document 01 asks for: a text and a position in it. It is made once for a text, the heading and each line of the body are
 // read through it, and each of these calls moves it behind what it read.
-ghost use Rattle.std.specs.Prelude.{◌≡◌, ◌+◌, ◌≤◌, ◌<◌, length, set, IfSome};
-ghost use Rattle.revlib_reader.specs.heading.Heading.{HeadingRead};
-ghost use Rattle.revlib_reader.specs.reader.Steps.{line_in, behind, BodyIs, TextIs};
+ghost use Rattle.std.specs.Prelude.{◌≡◌, ◌+◌, ◌≤◌, ◌<◌, length, set, IfOk};
+ghost use Rattle.revlib_reader.specs.heading.Heading.{HeadingTold};
+ghost use Rattle.revlib_reader.specs.reader.Steps.{letters_of, line_in, behind, BodyIs, TextIs};
 
 use crate::gate_lines;
 use crate::gate_lines::Line;
@@ -37,6 +37,13 @@ pub struct Text {
     pub body: Body,
 }
 
+// Where a text departs from the form: in its heading, of which this was read all the same, or behind this heading, which is in order.
+#[derive(Clone, Copy)]
+pub enum Departure {
+    Heading(Heading),
+    Body(Heading),
+}
+
 // A text and a position in it.
 #[derive(Clone, Copy)]
 struct Reader<'a> {
@@ -53,29 +60,28 @@ impl<'a> Reader<'a> {
     }
 
     // Reads the heading of a text, by a reader that stands at its start.
-    fn heading(&mut self) -> Option<Heading>
+    fn heading(&mut self) -> Result<Heading, Heading>
         requires { self.old.at ≡ 0 }
-        ensures heading { HeadingRead self.old.src.now result }
+        ensures heading { HeadingTold self.old.src.now result }
         ensures src { self.new.src ≡ self.old.src }
-        ensures at { IfSome result (λ h. self.new.at ≡ h.end) }
+        ensures at { IfOk result (λ h. self.new.at ≡ h.end) }
     {
-        let head = Heading::read(self.src)?;
+        let head = Heading::read_heading(self.src)?;
         self.at = head.end;
-        Some(head)
+        Ok(head)
     }
 
     // Reads the line at the reader's position. Past the end, or past the longest text that is read, no line is in order.
     #[tactic(auto, unfolding(crate::specs::reader::Steps::line_in))]
-    fn next(&mut self, letters: &[u8]) -> Option<Line>
-        requires { length letters.now ≤ 5 }
-        ensures line { result ≡ line_in letters.now self.old.src.now self.old.at }
+    fn next(&mut self, head: &Heading) -> Option<Line>
+        ensures line { result ≡ line_in (letters_of head.now) self.old.src.now self.old.at }
         ensures src { self.new.src ≡ self.old.src }
         ensures at { self.new.at ≡ behind self.old.at result }
     {
         if self.at >= self.src.len() || self.at >= 4096 {
             return None;
         }
-        let line = gate_lines::line_at(self.src, self.at, letters)?;
+        let line = gate_lines::line_at(self.src, self.at, head.letters())?;
         if let Line::Gate { size, .. } = line {
             self.at += size;
         }
@@ -83,27 +89,29 @@ impl<'a> Reader<'a> {
     }
 
     // Reads the lines of the body, from the reader's position up to `.end`.
-    fn body(&mut self, letters: &[u8]) -> Option<Body>
-        requires { length letters.now ≤ 5 }
-        ensures { length self.old.src.now ≤ 4096 → BodyIs letters.now self.old.src.now self.old.at result }
+    fn body(&mut self, head: &Heading) -> Option<Body>
+        ensures { length self.old.src.now ≤ 4096 → BodyIs (letters_of head.now) self.old.src.now self.old.at result }
     {
         let mut body = Body {
             count: 0,
             gates: [0; 12],
         };
-        while let Line::Gate { byte, .. } = self.next(letters)? {
-            body.push(byte);
+        loop {
+            match self.next(head) {
+                Some(Line::Gate { byte, .. }) => body.push(byte),
+                Some(Line::End) => return Some(body),
+                None => return None,
+            }
         }
-        Some(body)
     }
 }
 
-// Reads a text through one reader, if it is in order.
-pub fn scan(text: &[u8]) -> Option<Text>
+// Reads a text through one reader. A text that is not in order says where it departs from the form.
+pub fn scan(text: &[u8]) -> Result<Text, Departure>
     ensures { TextIs text.now result }
 {
     let mut reader = Reader::new(text);
-    let head = reader.heading()?;
-    let body = reader.body(head.letters())?;
-    Some(Text { head, body })
+    let head = reader.heading().map_err(Departure::Heading)?;
+    let body = reader.body(&head).ok_or(Departure::Body(head))?;
+    Ok(Text { head, body })
 }

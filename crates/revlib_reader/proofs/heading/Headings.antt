@@ -1,9 +1,9 @@
 -- A heading as the sequence of its parts.
-use Rattle.std.proofs.Common.{◌≡◌, refl, sym, ap, ap₂, ◌∙◌, Bool, true, false, inl, inr, ⊎_elim, List, [], ◌∷◌, ◌++◌, append_assoc, ℕ, zero, suc, ◌+◌, ◌-◌, ◌*◌, ◌≤◌, min, eqb, get_or, take, drop, length, length-append, length-take, arith}
+use Rattle.std.proofs.Common.{◌≡◌, refl, sym, ap, ap₂, ◌∙◌, true, false, inl, inr, ⊎_elim, List, [], ◌∷◌, ◌++◌, append_assoc, ℕ, zero, suc, ◌+◌, ◌-◌, ◌*◌, ◌≤◌, min, eqb, get_or, take, drop, length, length-append, length-take, Result, Ok, Err, arith}
+use Rattle.std.specs.Result.{result_ok}
 use lib.ListN.{length-replicate, take-append-drop}
 use lib.Seq.{drop-drop, take-append_seam}
 use borrow.Author.Tests.{eqb-true}
-use Rattle.std.specs.Bool.{then_some}
 use Rattle.logic.specs.Rules.{both, either}
 use Rattle.logic.specs.Lists.{all_of}
 use Rattle.logic.specs.Words.{bytes}
@@ -15,7 +15,7 @@ use Rattle.revlib.proofs.Exact.{spaced_length, name_count}
 use Rattle.revlib_reader.specs.declared.heading.Heading.{Heading}
 use Rattle.revlib_reader.specs.keywords.Words.{letters_line}
 use Rattle.revlib_reader.specs.heading.Inner.{opening, closing, dashes, dashed, five_at, names_ok, headed, end_of}
-use Rattle.revlib_reader.specs.heading.Heading.{HeadingRead}
+use Rattle.revlib_reader.specs.heading.Heading.{HeadingIs, HeadingBroken, HeadingTold, HeadingRead}
 use Rattle.revlib_reader.proofs.keywords.Beginnings.{pieces}
 
 -- the number of letters read
@@ -153,7 +153,7 @@ heading_length : (ls : List ℕ) (c : Constants) → 1 ≤ length ls → length 
 heading_length ls c h =
     ap length (in_pieces ls c) ∙ simp length-append (omega (arith, opening_length (length ls), letters_length ls, closing_length (length ls) c h))
 
--- a heading that was read off a text, with its letters and its line of constants, by whether the text begins with what they make
+-- what was read off a text, with its letters and its line of constants, by whether the text begins with the heading that they make
 module _ (s : List ℕ) (h : Heading) (c : Constants) (five : h.names ≡ five_at s) (wires : h.wires ≡ length (names_at s)) (said : c ≡ constants_at s h.wires)
     (spare : h.ancillas ≡ ancilla_count c) (end : h.end ≡ end_of h.wires c) where
   letters_are : take h.wires h.names ≡ names_at s
@@ -167,11 +167,10 @@ module _ (s : List ℕ) (h : Heading) (c : Constants) (five : h.names ≡ five_a
   unfolding headed heading_here
   here = rw (letters_are, said_so)
 
-  pub heading_read : (t : Bool) → t ≡ headed (take h.wires h.names) c s → HeadingRead s (then_some t h)
+  pub heading_sound : headed (take h.wires h.names) c s ≡ true → HeadingIs s h
   unfolding heading_here
-  heading_read false e = sym (e ∙ here)
-  heading_read true e =
-      let is : heading_here s ≡ true = sym (e ∙ here) in
+  heading_sound e =
+      let is : heading_here s ≡ true = sym here ∙ e in
       let ok = both_left (heading_ok (names_at s) (constants_in s)) (starts (heading (names_at s) (constants_in s)) s) is in
       let n = (name_count (names_at s) (constants_in s) ok).0 in
       record {
@@ -180,3 +179,11 @@ module _ (s : List ℕ) (h : Heading) (c : Constants) (five : h.names ≡ five_a
         spare = spare ∙ ap ancilla_count said_so;
         end = end ∙ ap₂ end_of wires said_so ∙ sym (heading_length (names_at s) (constants_in s) (omega arith));
       }
+
+  pub heading_broken : headed (take h.wires h.names) c s ≡ false → HeadingBroken s h
+  heading_broken e = record { unsound = sym here ∙ e; names = letters_are; spare = spare ∙ ap ancilla_count said_so }
+
+-- what is told of a heading holds of it where it is in order
+pub heading_read : (s : List ℕ) (r : Result Heading Heading) → HeadingTold s r → HeadingRead s (result_ok r)
+heading_read s (Ok h) told = told
+heading_read s (Err h) told = told.unsound

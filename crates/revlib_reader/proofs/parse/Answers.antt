@@ -1,22 +1,23 @@
--- A circuit, or a body of too many gates, by what is known of the text that was read.
-use Rattle.std.proofs.Common.{◌≡◌, sym, ap, subst, ◌∙◌, length, length-take-le, rules, Option, Some, None, Ok, arith}
+-- A circuit, or a refusal, by what is known of the text that was read.
+use Rattle.std.proofs.Common.{◌≡◌, sym, ap, ◌∙◌, length, length-take-le, rules, Ok, arith}
 use borrow.Author.Tests.{leb-true, leb-false}
-use Rattle.std.specs.Option.{ok_or}
+use Rattle.std.specs.Result.{result_ok}
 use Rattle.revlib_reader.specs.reader.Steps.{TextIs, letters_of}
-use Rattle.revlib_reader.proofs.Outcomes.{spare_few, wires_are, crowded, taken}
+use Rattle.revlib_reader.proofs.Outcomes.{in_order, departed, spare_few, wires_are, crowded, taken}
 use Rattle.revlib_reader.proofs.parse.Goals as goal
 use Rattle.revlib_reader.proofs.parse.Goals.{In_ok-head}
 
-some_given : {A E : Type 0} (o : Option A) (e : E) (v : A) → ok_or o e ≡ Ok v → o ≡ Some v
-some_given (Some w) e v h = cc
-some_given None e v h = cc
-
 -- what is known of the text
-text : (k : In_ok-head) → TextIs k.args.text.now (Some k.in_ok-head.field-0)
-text k = subst (TextIs k.args.text.now) (some_given _ _ _ (sym k.ok_or.ensures.value ∙ k.in_ok-head.was)) k.scan.ensures
+text : (k : In_ok-head) → TextIs k.args.text.now (Ok k.in_ok-head.field-0)
+text k = in_order k.args.text.now _ _ k.scan.ensures (sym k.ok.ensures.value ∙ k.ok_or.ensures.ok_part ∙ ap result_ok k.in_ok-head.was)
 
 cut : (k : In_ok-head) → length (letters_of k.in_ok-head.field-0.head) ≡ k.in_ok-head.field-0.head.wires
 cut k = let five : length k.in_ok-head.field-0.head.names ≡ 5 = search rules in let few = k.in_ok-head.field-0.head.few in length-take-le _ k.in_ok-head.field-0.head.names (omega arith)
+
+pub returns-in_err-head : goal.returns-in_err-head
+returns-in_err-head c =
+    let none = departed c.args.text.now _ c.scan.ensures c.requires (sym c.ok.ensures.value ∙ c.ok_or.ensures.ok_part ∙ ap result_ok c.in_err-head.was) in
+    search rules
 
 pub returns-in_err-kept : goal.returns-in_err-kept
 returns-in_err-kept c =

@@ -4,7 +4,6 @@ ghost use Rattle.std.specs.Prelude.{◌≤◌, length};
 use crate::output;
 use circuit::measures::Measures;
 use outcomes::Reported;
-use record::refusal::Refusal;
 
 // Says the line of a refusal.
 pub fn say_refused(rt: &impl Print, code: u8) {
@@ -22,10 +21,10 @@ pub fn say_found(rt: &impl Print, m: Measures, bytes: &[u8])
     output::say(rt, &out[..n.min(64)]);
 }
 
-// Says the line of a search's answer, whose record stands at the start of `answer`.
-pub fn say_answer(rt: &impl Print, told: Result<Reported, Refusal>, answer: &[u8]) {
+// Says the line of a search's answer, whose record stands at the start of `answer`. A refusal is given by its number; any number is said.
+pub fn say_answer(rt: &impl Print, told: Result<Reported, u8>, answer: &[u8]) {
     match told {
-        Err(e) => say_refused(rt, u8::from(e)),
+        Err(code) => say_refused(rt, code),
         Ok(found) => {
             let size = found.size.min(answer.len()).min(15);
             say_found(rt, found.measures, &answer[..size]);

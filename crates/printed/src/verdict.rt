@@ -61,5 +61,5 @@ pub fn verify_text(job: &[u8], library: Option<&[u8]>, file: &[u8], out: &mut [u
     ensures out_after { out.new
         ≡ in_front (verify_text job.now (lent library.entry) file.now) out.old }
 {
-    pass::report(verify_file(job, library, file), out)
+    pass::report(verify_file(job, library, file).map_err(u8::from), out)
 }

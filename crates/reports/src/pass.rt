@@ -1,13 +1,11 @@
 // The two lines of a pass, and the report on an answer of `verify`: these lines, or those of a refusal.
 ghost use Rattle.std.specs.Prelude.{◌≡◌, ◌+◌, ◌≤◌, length};
-ghost use Rattle.record.specs.Answers.{reply};
 ghost use Rattle.text.specs.pieces.Text.{in_front};
 ghost use Rattle.text.specs.pieces.Writing.{Wrote};
-ghost use Rattle.reports.specs.refusal.Report.{passed_line, times, ready_line, passed_text, report_of};
+ghost use Rattle.reports.specs.refusal.Report.{passed_line, times, ready_line, passed_text, numbered, report_of};
 
 use crate::refusal;
 use circuit::measures::Measures;
-use record::refusal::Refusal;
 use text::pieces;
 use text::pieces::put_text;
 
@@ -55,15 +53,16 @@ pub fn passed_text(m: Measures, out: &mut [u8]) -> usize
     put_ready(out, a, m)
 }
 
-// Writes the report on an answer of `verify` at the start of the buffer, and answers its length.
-pub fn report(answer: Result<Measures, Refusal>, out: &mut [u8]) -> usize
+// Writes the report on an answer of `verify` at the start of the buffer, and answers its length. A refusal is given by its number, and any
+// number will do: those above the last rule have a meaning too.
+pub fn report(answer: Result<Measures, u8>, out: &mut [u8]) -> usize
     requires { 128 ≤ length out.old }
-    ensures value { result ≡ length (report_of (reply answer)) }
+    ensures value { result ≡ length (report_of (numbered answer)) }
     ensures upper_bound { result ≤ 128 }
-    ensures out_after { out.new ≡ in_front (report_of (reply answer)) out.old }
+    ensures out_after { out.new ≡ in_front (report_of (numbered answer)) out.old }
 {
     match answer {
         Ok(m) => passed_text(m, out),
-        Err(broken) => refusal::refused_text(u8::from(broken), out),
+        Err(code) => refusal::refused_text(code, out),
     }
 }

@@ -49,7 +49,7 @@ fn script_collect(rt: &impl Print, slots: &mut Slots, rec: &[u8]) {
     let room = usize::from(logic::at(rec, 2)).min(20);
     let mut answer = [0u8; 20];
     let told = slots.collect(which, &mut answer[..room]);
-    slot_lines::say_answer(rt, told, &answer[..room]);
+    slot_lines::say_answer(rt, told.map_err(u8::from), &answer[..room]);
     if let Ok(found) = told {
         slot_lines::say_ready(rt, found.measures);
         output::say(rt, b"\n");

@@ -1,5 +1,5 @@
 -- What is printed for a refusal and for a pass, and the report on an answer of `verify`.
-use Rattle.std.specs.Prelude.{List, ◌++◌, ℕ}
+use Rattle.std.specs.Prelude.{List, ◌++◌, ℕ, Result, Ok, Err}
 use Rattle.logic.specs.Answers.{Answer, refused, answered}
 use Rattle.circuit.specs.declared.measures.Measures.{Measures}
 use Rattle.logic.specs.Words.{bytes}
@@ -25,6 +25,11 @@ passed_text m = passed_line m ++ ready_line m
 -- `refused NUMBER`, and on a second line what the number means
 unfoldable pub refused_text : ℕ → List ℕ
 refused_text code = refused_line code ++ (meaning code ++ line_feed)
+
+-- an answer whose refusal is given as a number, also one that no call answers
+abbrev pub numbered : Result Measures ℕ → Answer Measures
+numbered (Ok m) = answered m
+numbered (Err code) = refused code
 
 -- the report on an answer of `verify`
 unfoldable pub report_of : Answer Measures → List ℕ

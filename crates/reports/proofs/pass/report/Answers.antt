@@ -11,5 +11,5 @@ returns-in-Ok c =
 pub returns-in-Err : goal.returns-in-Err
 unfolding report_of
 returns-in-Err c =
-    rw (c.in-Err.is, ← c.from.ensures)
-    (record { value = c.refused_text.ensures.value; upper_bound = rw c.refused_text.ensures.value (refused_short c.from.result); out_after = c.refused_text.ensures.out_after })
+    rw c.in-Err.is
+    (record { value = c.refused_text.ensures.value; upper_bound = rw c.refused_text.ensures.value (refused_short c.in-Err.code); out_after = c.refused_text.ensures.out_after })

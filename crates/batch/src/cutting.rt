@@ -4,7 +4,6 @@ ghost use Rattle.logic.specs.Lists.{total};
 ghost use Rattle.batch.specs.cutting.Records.{size_said, record_size, records_of, count_of, job_at};
 
 use record::job_fields;
-use std::ops::Range;
 
 // The records of a batch: how many there are, and where the last one ends.
 #[derive(Clone, Copy)]
@@ -52,8 +51,15 @@ pub fn cut_off(jobs: &[u8]) -> Cut
     Cut { count: 64, end }
 }
 
+// Where a record of a batch begins and ends. A `Range` would be no `Copy`.
+#[derive(Clone, Copy)]
+pub struct Span {
+    pub start: usize,
+    pub end: usize,
+}
+
 // Where record `i` stands, counted from 0.
-pub fn record_at(jobs: &[u8], i: usize) -> Range<usize>
+pub fn record_at(jobs: &[u8], i: usize) -> Span
     requires { i < count_of jobs.now }
     ensures jobs_value { take (result.end - result.start) (drop result.start jobs.now) ≡ job_at jobs.now i }
     ensures start_le_end { result.start ≤ result.end }
@@ -63,5 +69,6 @@ pub fn record_at(jobs: &[u8], i: usize) -> Range<usize>
     for _k in 0..i {
         start += record_size(&jobs[start..]);
     }
-    start..start + record_size(&jobs[start..])
+    let end = start + record_size(&jobs[start..]);
+    Span { start, end }
 }

@@ -2,7 +2,7 @@
 // collected, with the number of turns taken by then.
 #![tactic(auto)]
 
-ghost use Rattle.std.specs.Prelude.{◌≡◌, List, ℕ, ◌≤◌, ◌<◌, length, IfSome};
+ghost use Rattle.std.specs.Prelude.{◌≡◌, List, ℕ, ◌≤◌, ◌<◌, ◌+◌, length, get_or, IfSome};
 ghost use Rattle.text.specs.pieces.Text.{in_front};
 ghost use Rattle.printed.specs.job_line.Lines.{line_of};
 ghost use Rattle.batch.specs.cutting.Records.{count_of};
@@ -108,6 +108,14 @@ impl Work {
         }
     }
 
+    // The job of a slot, counted from 1.
+    fn owner_at(&self, which: usize) -> usize
+        requires { which < 8 }
+        ensures { result ≡ get_or self.now.owners which 0 + 1 }
+    {
+        usize::from(self.owners[which]) + 1
+    }
+
     // Collects the answer of the slot that was served, if it is finished, and says it.
     fn collect_served(&mut self, rt: &impl Print, which: usize)
         requires { which < 8 }
@@ -118,7 +126,7 @@ impl Work {
         let Some(size) = finished_line(&mut self.slots, which, &mut out) else {
             return;
         };
-        say_heading(rt, usize::from(self.owners[which]) + 1, self.turns);
+        say_heading(rt, self.owner_at(which), self.turns);
         output::say(rt, &out[..size]);
         self.free = which;
     }

@@ -34,7 +34,7 @@ pub enum Stage {
     Finished,
 }
 
-// The stage that a status says: 1 is working, 2 finished, and any other number empty.
+// The stage that a status stands for: 1 is working, 2 finished, and any other number empty.
 fn stage_said(status: u8) -> Stage
     ensures { result ≡ stage_said status }
 {
@@ -90,9 +90,9 @@ fn kept(best: Option<Best>) -> Option<Held>
     })
 }
 
-// The state of a slot. `status` is 1 for a working slot, 2 for a finished one, anything else for an empty one: a number, since a caller can
-// make any. `job` begins with the job's `size` bytes, `at` is the place of the candidate to try next, and `best` is the incumbent, the best
-// circuit so far, of any length for the same reason.
+// The state of a slot. `status` is 1 for a working slot, 2 for a finished one, and anything else for an empty one. `job` begins with the
+// job's `size` bytes, `at` is the place of the candidate to try next, and `best` is the incumbent, the best circuit so far. The fields are
+// public, so a caller can write any number into `status` and any length into `best`.
 #[derive(Clone, Copy)]
 pub struct SlotState {
     pub status: u8,

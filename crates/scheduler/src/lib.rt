@@ -19,7 +19,7 @@ ghost use Rattle.logic.specs.Answers.{refused};
 ghost use Rattle.record.specs.Answers.{reply};
 ghost use Rattle.outcomes.specs.Outcomes.{reported, written};
 ghost use Rattle.scheduler.specs.states.States.{post_of, after_post, served_by, after_turn, collect_of, after_collect};
-ghost use Rattle.scheduler.specs.states.Calls.{view_state, service_answer};
+ghost use Rattle.scheduler.specs.states.Calls.{view_state, AllHeldShort, service_answer};
 
 use crate::slot::SlotState;
 pub use crate::states::{Slots, start};
@@ -32,6 +32,7 @@ impl Slots {
         ensures answer_value { reply result ≡ post_of (view_state self.old) which job.now }
         ensures by_index { (n : ℕ) → reply result ≡ refused n → self.new ≡ self.old }
         ensures slots_value { view_state self.new ≡ after_post (view_state self.old) which job.now }
+        ensures held_short { AllHeldShort self.old → AllHeldShort self.new }
     {
         self.check_post(which, job)?;
         self.states[which] = SlotState::fresh(job);
@@ -43,6 +44,7 @@ impl Slots {
         ensures answer_value { service_answer result ≡ served_by (view_state self.old) }
         ensures slots_value { service_answer result ≡ none → self.new ≡ self.old }
         ensures slots_value_2 { view_state self.new ≡ after_turn (view_state self.old) }
+        ensures held_short { AllHeldShort self.old → AllHeldShort self.new }
     {
         let i = self.next_working()?;
         self.states[i].serve();
@@ -57,6 +59,7 @@ impl Slots {
         ensures answer_bound { IfOk result (λ r. r.size ≤ 15) }
         ensures by_index { (n : ℕ) → reply result ≡ refused n → (n ≡ 14 → ⊥) → self.new ≡ self.old }
         ensures slots_value { view_state self.new ≡ after_collect (view_state self.old) which (length answer.old) }
+        ensures held_short { AllHeldShort self.old → AllHeldShort self.new }
         ensures answer_after { answer.new ≡ written (collect_of (view_state self.old) which (length answer.old)) answer.old }
     {
         self.check_collect(which, answer.len())?;

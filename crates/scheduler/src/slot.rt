@@ -12,7 +12,7 @@ ghost use Rattle.outcomes.specs.Outcomes.{problem_of, reported, written};
 ghost use Rattle.scheduler.specs.candidates.Inner.{current_at, after_at, remaining};
 ghost use Rattle.scheduler.specs.candidates.Left.{chosen, digits_at};
 ghost use Rattle.scheduler.specs.slot.Slots.{empty, is_empty, is_working, is_finished, begun, tried, result_of};
-ghost use Rattle.scheduler.specs.slot.View.{stage_said, held_len, sound_of, stage_of, view_slot};
+ghost use Rattle.scheduler.specs.slot.View.{stage_said, held_len, HeldShort, sound_of, stage_of, view_slot};
 ghost use Rattle.scheduler.specs.slot.Inner.{does_for};
 
 use crate::candidates;
@@ -105,7 +105,8 @@ pub struct SlotState {
 impl SlotState {
     // An empty slot.
     pub fn vacant() -> SlotState
-        ensures { view_slot result ≡ empty }
+        ensures slot { view_slot result ≡ empty }
+        ensures held_short { HeldShort result }
     {
         let at = candidates::first();
         SlotState {
@@ -113,14 +114,15 @@ impl SlotState {
             size: 0,
             job: [0; 30],
             at,
-            best: None,
+            best: None, // no job, so nothing is kept
         }
     }
 
     // A working slot whose job was just posted: no candidate is tried yet.
     pub fn fresh(job: &[u8]) -> SlotState
         requires { job_code job.now ≡ 0 }
-        ensures { view_slot result ≡ begun job.now }
+        ensures slot { view_slot result ≡ begun job.now }
+        ensures held_short { HeldShort result }
     {
         let size = job.len();
         let mut bytes = [0; 30];
@@ -131,7 +133,7 @@ impl SlotState {
             size,
             job: bytes,
             at,
-            best: None,
+            best: None, // no candidate was tried
         }
     }
 
@@ -179,7 +181,8 @@ impl SlotState {
 
     // One turn of a slot: it tries one candidate, and is finished where that was the last. A slot that is not working stays as it is.
     pub fn serve(&mut self)
-        ensures { view_slot self.new ≡ tried (view_slot self.old) }
+        ensures slot { view_slot self.new ≡ tried (view_slot self.old) }
+        ensures held_short { HeldShort self.old → HeldShort self.new }
     {
         if !self.is_working() {
             return;

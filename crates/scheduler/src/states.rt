@@ -5,7 +5,7 @@ ghost use Rattle.record.specs.JobRules.{job_code};
 ghost use Rattle.scheduler.specs.slot.Slots.{is_finished};
 ghost use Rattle.scheduler.specs.slot.View.{view_slot};
 ghost use Rattle.scheduler.specs.states.States.{start_state, slot_at, with_slot, post_code, served_by, collect_code};
-ghost use Rattle.scheduler.specs.states.Calls.{view_state, service_answer};
+ghost use Rattle.scheduler.specs.states.Calls.{view_state, AllHeldShort, service_answer};
 
 use crate::slot::SlotState;
 use record::refusal;
@@ -20,7 +20,8 @@ pub struct Slots {
 
 // Eight empty slots; slot 7 counts as served last.
 pub fn start() -> Slots
-    ensures { view_state result ≡ start_state }
+    ensures state { view_state result ≡ start_state }
+    ensures held_short { AllHeldShort result }
 {
     let state = SlotState::vacant();
     Slots {

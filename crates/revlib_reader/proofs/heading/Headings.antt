@@ -1,9 +1,10 @@
 -- A heading as the sequence of its parts.
-use Rattle.std.proofs.Common.{◌≡◌, refl, sym, ap, ap₂, ◌∙◌, true, false, inl, inr, ⊎_elim, List, [], ◌∷◌, ◌++◌, append_assoc, ℕ, zero, suc, ◌+◌, ◌-◌, ◌*◌, ◌≤◌, min, eqb, get_or, take, drop, length, length-append, length-take, Result, Ok, Err, arith}
+use Rattle.std.proofs.Common.{◌≡◌, refl, sym, ap, ap₂, ◌∙◌, Bool, true, false, inl, inr, ⊎_elim, List, [], ◌∷◌, ◌++◌, append_assoc, ℕ, zero, suc, ◌+◌, ◌-◌, ◌*◌, ◌≤◌, min, eqb, get_or, take, drop, length, length-append, length-take, Result, Ok, Err, arith}
 use Rattle.std.specs.Result.{result_ok}
 use lib.ListN.{length-replicate, take-append-drop}
 use lib.Seq.{drop-drop, take-append_seam}
 use borrow.Author.Tests.{eqb-true}
+use Rattle.std.specs.Bool.{then_some}
 use Rattle.logic.specs.Rules.{both, either}
 use Rattle.logic.specs.Lists.{all_of}
 use Rattle.logic.specs.Words.{bytes}
@@ -183,7 +184,12 @@ module _ (s : List ℕ) (h : Heading) (c : Constants) (five : h.names ≡ five_a
   pub heading_broken : headed (take h.wires h.names) c s ≡ false → HeadingBroken s h
   heading_broken e = record { unsound = sym here ∙ e; names = letters_are; spare = spare ∙ ap ancilla_count said_so }
 
+  -- both at once, by the test of the text
+  pub heading_read : (t : Bool) → t ≡ headed (take h.wires h.names) c s → HeadingRead s (then_some t h)
+  heading_read false e = (heading_broken (sym e)).unsound
+  heading_read true e = heading_sound (sym e)
+
 -- what is told of a heading holds of it where it is in order
-pub heading_read : (s : List ℕ) (r : Result Heading Heading) → HeadingTold s r → HeadingRead s (result_ok r)
-heading_read s (Ok h) told = told
-heading_read s (Err h) told = told.unsound
+pub heading_told : (s : List ℕ) (r : Result Heading Heading) → HeadingTold s r → HeadingRead s (result_ok r)
+heading_told s (Ok h) told = told
+heading_told s (Err h) told = told.unsound

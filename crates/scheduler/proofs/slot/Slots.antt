@@ -20,7 +20,7 @@ use Rattle.scheduler.specs.declared.candidates.Place.{Place}
 use Rattle.scheduler.specs.declared.slot.Stage.{Stage}
 use Rattle.problem.specs.declared.order.Held.{Held}
 use Rattle.problem.specs.order.View.{viewed, held_choice}
-use Rattle.std.proofs.Common.{Option, None}
+use Rattle.std.proofs.Common.{Option, Some, None}
 use Rattle.scheduler.specs.candidates.Inner.{current_at, after_at}
 use Rattle.scheduler.specs.candidates.Left.{left, digits_at, left_at}
 use Rattle.scheduler.proofs.candidates.Odometer.{all_left}
@@ -160,21 +160,27 @@ none_there e h = seen e Stage.Empty (by_sound (sound_of e))
     by_sound true = h
     by_sound false = refl
 
+-- what is kept has no gate where nothing is kept
+kept_none : (o : Option Held) → viewed held_choice o ≡ none → held_len o ≡ 0
+unfolding viewed held_len
+kept_none None h = refl
+kept_none (Some x) h = cc
+
 -- a job that was just posted
 pub posted : (job : List ℕ) → job_code job ≡ 0 → (e : SlotState) (rest : List ℕ)
-    → e.status ≡ 1 → e.size ≡ length job → e.job ≡ take (length job) job ++ rest
-    → digits_at e.at ≡ [] → e.at.layout ≡ 0 → e.at.len ≤ 12 → e.best ≡ None
+    → stage_said e.status ≡ Stage.Working → e.size ≡ length job → e.job ≡ take (length job) job ++ rest
+    → digits_at e.at ≡ [] → e.at.layout ≡ 0 → e.at.len ≤ 12 → viewed held_choice e.best ≡ none
     → view_slot e ≡ begun job
-unfolding begun problem_over viewed held_len
+unfolding begun problem_over
 posted job sound e rest stage size bytes start first short nothing =
     let P = problem_of job in
     let here : job_in e ≡ job
     = ap₂ take size (bytes ∙ ap (λ (l : List ℕ). l ++ rest) (take-length job)) ∙ take_at job rest (length job) refl in
     let fits = job_short job sound in
-    let empty_handed : held_len e.best ≡ 0 = ap held_len nothing in
+    let few = kept_none e.best nothing in
     let s : Sound e
-    = record { short = omega arith; job_sound_law = ap job_code here ∙ sound; list_short = short; held_short = omega (arith, empty_handed) } in
-    seen e Stage.Working (stage_is e s ∙ ap stage_said stage)
+    = record { short = omega arith; job_sound_law = ap job_code here ∙ sound; list_short = short; held_short = omega arith } in
+    seen e Stage.Working (stage_is e s ∙ stage)
     ∙ ap (λ (l : List ℕ). working l (left_at (problem_of l) e.at) (viewed held_choice e.best)) here
     ∙ ap₂ (λ (ds : List ℕ) (p : ℕ). working job (left P ds p) (viewed held_choice e.best)) start first
-    ∙ ap₂ (going job) (all_left P (layouts_few job sound).0) (ap (viewed held_choice) nothing)
+    ∙ ap₂ (going job) (all_left P (layouts_few job sound).0) nothing

@@ -1,6 +1,6 @@
 -- What the code's struct `SlotState` stands for: a slot as slot/Slots.antt has it. Every value of the struct stands for a slot, also one
 -- that no call made: where the fields do not fit one another, for an empty slot.
-use Rattle.std.specs.Prelude.{Bool, List, ℕ, leb, eqb, take, Option, Some, None}
+use Rattle.std.specs.Prelude.{Bool, List, ℕ, ◌≤◌, leb, eqb, take, Option, Some, None}
 use Rattle.logic.specs.Rules.{both, pick}
 use Rattle.record.specs.JobRules.{job_code}
 use Rattle.problem.specs.order.View.{viewed, held_choice}
@@ -19,6 +19,10 @@ job_in s = take s.size s.job
 unfoldable pub held_len : Option Held → ℕ
 held_len None = 0
 held_len (Some h) = h.len
+
+-- that circuit has at most twelve gates: so it is in each state that the calls alone made
+abbrev pub HeldShort : SlotState → Type 0
+HeldShort s = held_len s.best ≤ 12
 
 -- its fields fit one another: its job is well-formed, and both its lists have at most twelve gates
 unfoldable pub sound_of : SlotState → Bool

@@ -5,7 +5,7 @@ use Rattle.problem.specs.declared.order.Held.{Held}
 use Rattle.problem.specs.order.Choices.{Choice, attempt}
 use Rattle.problem.specs.order.View.{view, viewed, held_choice}
 use Rattle.problem.specs.Problems.{Problem, good}
-use Rattle.outcomes.specs.Outcomes.{problem_over, problem_of}
+use Rattle.outcomes.specs.Outcomes.{problem_of}
 use Rattle.scheduler.specs.declared.candidates.Place.{Place}
 use Rattle.scheduler.specs.candidates.Inner.{remaining, current_at}
 use Rattle.scheduler.specs.slot.Slots.{is_working}
@@ -38,8 +38,8 @@ place_after-next-requires-clause-job_value c = let h = sound (goal.at.place_afte
 pub place_after-next-requires-clause-len_bound : goal.place_after-next-requires-clause-len_bound
 place_after-next-requires-clause-len_bound c = let h = sound (goal.at.place_after-next-requires-clause-len_bound c).Else-not-is_working in h.list_short
 
-pub returns-then-not-is_working : goal.returns-then-not-is_working
-returns-then-not-is_working c = not_served c.args.self.now (sym c.is_working.ensures ∙ c.if-not-is_working.true)
+pub returns-then-not-is_working-clause-slot : goal.returns-then-not-is_working-clause-slot
+returns-then-not-is_working-clause-slot c = not_served c.args.self.now (sym c.is_working.ensures ∙ c.if-not-is_working.true)
 
 none_left : (P : Problem) (o : Option Place) (l : List Choice) → ((x : Place) → o ≡ Some x → ⊥) → remaining P o ≡ l → [] ≡ l
 none_left P None l n e = e
@@ -53,16 +53,22 @@ module _ (job : List ℕ) (at : Place) (before after : Option Best) (e k : Optio
       → viewed held_choice k ≡ attempt (good (problem_of job)) (viewed held_choice e) (current_at (problem_of job) at)
   kept_is same tried was = same ∙ tried ∙ ap (λ h. attempt (good (problem_of job)) h (current_at (problem_of job) at)) was
 
-pub returns-in_default : goal.returns-in_default
-returns-in_default c =
-    served_last c.args.self.now (works (goal.at.returns-in_default c).Else-not-is_working) c.kept-held.result
+pub returns-in_default-clause-slot : goal.returns-in_default-clause-slot
+returns-in_default-clause-slot c =
+    served_last c.args.self.now (works (goal.at.returns-in_default-clause-slot c).Else-not-is_working) c.kept-held.result
     (kept_is _ c.args.self.now.at c.incumbent.result c.attempt.result c.args.self.now.best c.kept-held.result c.kept-held.ensures.same c.attempt.ensures c.incumbent.ensures)
     c.kept-held.ensures.short
     (none_left _ c.place_after-next.result _ c.in_default.not-Some c.place_after-next.ensures.result_value)
 
-pub returns : goal.returns
-returns c =
-    served_on c.args.self.now (works (goal.at.returns c).Else-not-is_working) c.kept-held.result
+pub returns-in_default-clause-held_short : goal.returns-in_default-clause-held_short
+returns-in_default-clause-held_short c = λ h. c.kept-held.ensures.short
+
+pub returns-clause-slot : goal.returns-clause-slot
+returns-clause-slot c =
+    served_on c.args.self.now (works (goal.at.returns-clause-slot c).Else-not-is_working) c.kept-held.result
     (kept_is _ c.args.self.now.at c.incumbent.result c.attempt.result c.args.self.now.best c.kept-held.result c.kept-held.ensures.same c.attempt.ensures c.incumbent.ensures)
     c.kept-held.ensures.short
     c.in-Some.place c.in-Some.ensures.result_value c.in-Some.ensures.len_bound_2
+
+pub returns-clause-held_short : goal.returns-clause-held_short
+returns-clause-held_short c = λ h. c.kept-held.ensures.short

@@ -9,7 +9,6 @@ use Rattle.problem.specs.order.View.{view, viewed, held_choice}
 use Rattle.outcomes.specs.Inner.{told_of}
 use Rattle.outcomes.specs.Outcomes.{Found, own_set, outcome_of, reported, written}
 use Rattle.scheduler.specs.declared.slot.Stage.{Stage}
-use Rattle.scheduler.specs.declared.slot.SlotState.{SlotState}
 use Rattle.scheduler.specs.slot.Slots.{result_of}
 use Rattle.scheduler.specs.slot.View.{job_in, view_slot}
 use Rattle.scheduler.proofs.slot.Slots.{finished_sound, seen, finished_stage}

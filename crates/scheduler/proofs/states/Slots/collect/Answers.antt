@@ -1,10 +1,11 @@
 -- A rule broken, and nothing changes; or the slot's answer is told and the slot emptied.
 use Rattle.std.proofs.Common.{◌≡◌, sym, ap, ◌∙◌, ◌<◌, get_or, length, rules, arith}
+use Rattle.std.proofs.lemmas.List.Elements.{All-set}
 use Rattle.logic.specs.Answers.{Answer}
 use Rattle.outcomes.specs.Outcomes.{Found, reported, written}
 use Rattle.scheduler.specs.declared.slot.SlotState.{SlotState}
 use Rattle.scheduler.specs.slot.Slots.{Slot, is_finished, result_of}
-use Rattle.scheduler.specs.slot.View.{view_slot}
+use Rattle.scheduler.specs.slot.View.{HeldShort, view_slot}
 use Rattle.scheduler.specs.states.States.{slot_at, with_slot}
 use Rattle.scheduler.specs.states.Calls.{view_state}
 use Rattle.scheduler.proofs.states.Rules.{only_none, collect_by, collect_done}
@@ -54,8 +55,11 @@ pub returns-clause-slots_value : goal.returns-clause-slots_value
 unfolding view_state
 returns-clause-slots_value c =
     let v = view_state c.args.self.now in
-    changed c.args.self.now c.args.which c.vacant.result c.args.self.now.last ∙ ap (λ (x : Slot). with_slot v c.args.which x v.last) c.vacant.ensures
+    changed c.args.self.now c.args.which c.vacant.result c.args.self.now.last ∙ ap (λ (x : Slot). with_slot v c.args.which x v.last) c.vacant.ensures.slot
     ∙ (collect_done v c.args.which (length c.args.answer.now) (sym c.in_ok-check_collect.ensures.value)).1
+
+pub returns-clause-held_short : goal.returns-clause-held_short
+returns-clause-held_short c = λ h. All-set HeldShort c.args.self.now.states c.args.which c.vacant.result c.vacant.ensures.held_short h
 
 pub returns-clause-answer_after : goal.returns-clause-answer_after
 returns-clause-answer_after c =

@@ -16,4 +16,4 @@ returns-then-i-lt8 c = slot_is c.args.self.now c.args.i _ refl
 pub returns-else-i-lt8 : goal.returns-else-i-lt8
 returns-else-i-lt8 c =
     let l = long (goal.at.returns-else-i-lt8 c).Start in
-    none_past c.args.self.now c.args.i (omega (arith, c.if-i-lt8.false)) _ c.vacant.ensures
+    none_past c.args.self.now c.args.i (omega (arith, c.if-i-lt8.false)) _ c.vacant.ensures.slot

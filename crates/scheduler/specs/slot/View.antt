@@ -20,7 +20,7 @@ unfoldable pub held_len : Option Held → ℕ
 held_len None = 0
 held_len (Some h) = h.len
 
--- that circuit has at most twelve gates: so it is in each state that the calls alone made
+-- that circuit, if there is one, has at most twelve gates; this holds of every state that only the calls made
 abbrev pub HeldShort : SlotState → Type 0
 HeldShort s = held_len s.best ≤ 12
 

@@ -55,7 +55,8 @@ pub returns-clause-slots_value : goal.returns-clause-slots_value
 unfolding view_state
 returns-clause-slots_value c =
     let v = view_state c.args.self.now in
-    changed c.args.self.now c.args.which c.vacant.result c.args.self.now.last ∙ ap (λ (x : Slot). with_slot v c.args.which x v.last) c.vacant.ensures.slot
+    changed c.args.self.now c.args.which c.vacant.result c.args.self.now.last
+    ∙ ap (λ (x : Slot). with_slot v c.args.which x v.last) c.vacant.ensures.slot
     ∙ (collect_done v c.args.which (length c.args.answer.now) (sym c.in_ok-check_collect.ensures.value)).1
 
 pub returns-clause-held_short : goal.returns-clause-held_short

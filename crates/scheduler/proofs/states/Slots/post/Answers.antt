@@ -24,7 +24,8 @@ pub returns-clause-slots_value : goal.returns-clause-slots_value
 unfolding view_state
 returns-clause-slots_value c =
     let v = view_state c.args.self.now in
-    changed c.args.self.now c.args.which c.fresh.result c.args.self.now.last ∙ ap (λ (x : Slot). with_slot v c.args.which x v.last) c.fresh.ensures.slot
+    changed c.args.self.now c.args.which c.fresh.result c.args.self.now.last
+    ∙ ap (λ (x : Slot). with_slot v c.args.which x v.last) c.fresh.ensures.slot
     ∙ (post_accepted v c.args.which c.args.job.now (sym c.in_ok-check_post.ensures.value)).1
 
 pub returns-clause-held_short : goal.returns-clause-held_short

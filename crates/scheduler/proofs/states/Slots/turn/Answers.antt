@@ -31,4 +31,5 @@ pub returns-clause-held_short : goal.returns-clause-held_short
 returns-clause-held_short c =
     let l = long (goal.at.returns-clause-held_short c).Start in
     let b = c.in_ok-i.ensures.upper_bound in
-    λ h. All-set HeldShort c.args.self.now.states c.in_ok-i.i _ (c.serve.ensures.held_short (All-get_or HeldShort c.args.self.now.states c.in_ok-i.i _ (omega arith) h)) h
+    λ h. All-set HeldShort c.args.self.now.states c.in_ok-i.i _
+    (c.serve.ensures.held_short (All-get_or HeldShort c.args.self.now.states c.in_ok-i.i _ (omega arith) h)) h
